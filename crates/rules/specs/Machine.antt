@@ -1,0 +1,102 @@
+-- THE RULES WITHOUT MEMORY: the chunks left to right, the six orders, the figures. No words, no links, no tags.
+use mathlib.Core.Bool.{false}
+use mathlib.Core.List.{List, [], _∷_, _++_}
+use Prim.Native.Nat.{ℕ, suc, _+_, _-_, _*_}
+use lib.Dec.{eqb, leb, ltb}
+use lib.ListN.{length, take, drop}
+use Rattle.words.specs.Choice.{pick}
+use Rattle.rules.specs.Chunks.{Chunk, free, taken, release}
+use Rattle.words.specs.Sizes.{classOf, roundedOf, startOf}
+use Rattle.rules.specs.Search.{Found, at, nowhere, lost, find, searchAll}
+use Rattle.rules.specs.Place.{lenAt, indexAt, usedAt}
+use Rattle.rules.specs.Orders.{takenOrders, mergedOrders, freeLast, freeHead, push}
+use Rattle.rules.specs.Rules.{Figures, Outcome, says, byteOf, nameOf, Chosen, none, one, choose, listed, withCached, counted, released}
+use Rattle.rules.specs.Steps.{portion}
+
+pub record Model : Type 0 where
+  pub cs : List Chunk
+  pub orders : ℕ → List ℕ
+  pub figs : Figures
+
+-- the length of the chunk that a link names
+abbrev pub sizeM : Model → ℕ → ℕ
+sizeM m x = lenAt (m .cs) (byteOf x)
+
+abbrev pub madeM : ℕ → Model
+madeM n =
+    record {
+      cs = free (4 * (n - 1)) ∷ [];
+      orders = push (λ k. []) (classOf (4 * (n - 1))) 6;
+      figs = record { words = n; cached = []; inUse = 0; peak = 0; high = 0; flag = false };
+    }
+
+-- HANDING OUT
+unfoldable pub tookM : Model → ℕ → ℕ → ℕ → Model
+tookM m x n z =
+    record {
+      cs = taken (m .cs) (indexAt (m .cs) (byteOf x)) z;
+      orders = takenOrders classOf (m .orders) (byteOf x) n z;
+      figs = counted (m .figs) (portion n z) (byteOf x + portion n z);
+    }
+
+abbrev pub searchM : Model → ℕ → Found
+searchM m z = searchAll (λ j. find (sizeM m) z (m .orders j)) (6 - startOf z) (startOf z) 0
+
+abbrev pub fromListM : Model → ℕ → Found → Outcome Model
+fromListM m z (at x c) = says 0 (byteOf x + 4) c (tookM m x (sizeM m x) z)
+fromListM m z (nowhere c) = says 3 0 c m
+fromListM m z lost = says 5 0 0 m
+
+abbrev pub fromCacheM : Model → ℕ → Chosen → Outcome Model
+fromCacheM m z (one x ks) = says 0 (byteOf x + 4) 0 (record { cs = m .cs; orders = m .orders; figs = withCached (m .figs) ks })
+fromCacheM m z none = fromListM m z (searchM m z)
+
+unfoldable pub handOutM : Model → ℕ → Outcome Model
+handOutM m size =
+    let serve = fromCacheM m (roundedOf size) (choose (sizeM m) (roundedOf size) (m .figs .cached)) in
+    let small = pick (ltb 4294967284 size) (says 2 0 0 m) serve in
+    pick (eqb size 0) (says 1 0 0 m) small
+
+-- TAKING BACK
+unfoldable pub liveM : Model → ℕ → ℕ
+liveM m p =
+    let cold = pick (listed (nameOf (p - 4)) (m .figs .cached)) 0 (usedAt (m .cs) (p - 4)) in
+    pick (leb 4 p) cold 0
+
+-- the chunk of n bytes at byte b released, ks cached
+unfoldable pub gaveM : Model → List ℕ → ℕ → ℕ → Model
+gaveM m ks b n =
+    let i = indexAt (m .cs) b in
+    let f = freeLast 0 (take i (m .cs)) in
+    record {
+      cs = release (m .cs) i;
+      orders = mergedOrders classOf (m .orders) (b - f) f n (freeHead (drop (suc i) (m .cs)));
+      figs = released (m .figs) ks n;
+    }
+
+abbrev pub settledM : ℕ → Model → List ℕ → Model
+settledM places m [] = m
+settledM places m (k ∷ ks) =
+    pick (leb (length (k ∷ ks)) places) (record { cs = m .cs; orders = m .orders; figs = withCached (m .figs) (k ∷ ks) }) (gaveM m ks (byteOf k) (sizeM m k))
+
+unfoldable pub takeBackM : ℕ → Model → ℕ → Outcome Model
+takeBackM places m p =
+    let done = says 0 0 0 (settledM places m (m .figs .cached ++ nameOf (p - 4) ∷ [])) in
+    pick (eqb (liveM m p) 0) (says 4 0 0 m) done
+
+-- THE MACHINE: what a request does to a model, and what it answers
+pub data Request : Type 0 where
+  ask : ℕ → Request
+  give : ℕ → Request
+
+pub record Answer : Type 0 where
+  pub number : ℕ
+  pub value : ℕ
+  pub compared : ℕ
+
+abbrev pub answerOf : {S : Type 0} → Outcome S → Answer
+answerOf o = record { number = o .number; value = o .value; compared = o .compared }
+
+unfoldable pub callM : ℕ → Request → Model → Outcome Model
+callM places (ask n) m = handOutM m n
+callM places (give p) m = takeBackM places m p

@@ -1,0 +1,126 @@
+-- DOCUMENT 01'S RULES: handing out and taking back, as functions that compute, whatever the link width (`op`) and the number of cache places. `sound` is the
+-- test that answer 5 goes by. Each gives one outcome: answer number, value, compared count, and the state after it.
+use mathlib.Core.Bool.{Bool, true, false}
+use mathlib.Core.List.{List, [], _∷_, _++_}
+use Prim.Native.Nat.{ℕ, _+_, _-_, _*_, _/_, max}
+use lib.Dec.{eqb, leb, ltb}
+use lib.ListN.{length}
+use Rattle.words.specs.Choice.{pick}
+use Rattle.words.specs.Sizes.{roundedOf, startOf}
+use Rattle.rules.specs.Ops.{Ops}
+use Rattle.rules.specs.Steps.{portion, lengthAt, takeChunk, releaseChunk}
+use Rattle.rules.specs.Search.{Found, at, nowhere, lost, findWalk, searchAll}
+use Rattle.rules.specs.Place.{usedWalk}
+
+-- what the record holds beside its links; the cached chunks by their links, oldest first
+pub record Figures : Type 0 where
+  pub words : ℕ
+  pub cached : List ℕ
+  pub inUse : ℕ
+  pub peak : ℕ
+  pub high : ℕ
+  pub flag : Bool
+
+pub record Outcome (S : Type 0) : Type 0 where
+  pub number : ℕ
+  pub value : ℕ
+  pub compared : ℕ
+  pub after : S
+
+abbrev pub says : {S : Type 0} → ℕ → ℕ → ℕ → S → Outcome S
+says n v c s = record { number = n; value = v; compared = c; after = s }
+
+-- the byte of the chunk that a link names, and the link of the chunk at a byte
+abbrev pub byteOf : ℕ → ℕ
+byteOf x = (x - 6) * 4
+
+abbrev pub nameOf : ℕ → ℕ
+nameOf b = b / 4 + 6
+
+-- THE CACHE: the oldest one of at least z and at most z + 512 bytes, and the others
+pub data Chosen : Type 0 where
+  none : Chosen
+  one : ℕ → List ℕ → Chosen
+
+abbrev pub behind : ℕ → Chosen → Chosen
+behind x none = none
+behind x (one y ys) = one y (x ∷ ys)
+
+abbrev pub serves : ℕ → ℕ → Bool
+serves n z = pick (leb z n) (leb n (z + 512)) false
+
+unfoldable pub choose : (ℕ → ℕ) → ℕ → List ℕ → Chosen
+choose size z [] = none
+choose size z (x ∷ xs) = let r = behind x (choose size z xs) in pick (serves (size x) z) (one x xs) r
+
+unfoldable pub listed : ℕ → List ℕ → Bool
+listed x [] = false
+listed x (y ∷ ys) = let r = listed x ys in pick (eqb x y) true r
+
+-- THE FIGURES after only the cache changed; after a chunk of m bytes that ends at byte e came from a list; after one of n bytes was released
+abbrev pub withCached : Figures → List ℕ → Figures
+withCached r ks = record { words = r .words; cached = ks; inUse = r .inUse; peak = r .peak; high = r .high; flag = r .flag }
+
+abbrev pub counted : Figures → ℕ → ℕ → Figures
+counted r m e =
+    record {
+      words = r .words;
+      cached = r .cached;
+      inUse = r .inUse + m;
+      peak = max (r .peak) (r .inUse + m);
+      high = max (r .high) e;
+      flag = pick (ltb (r .high) e) true (r .flag);
+    }
+
+abbrev pub released : Figures → List ℕ → ℕ → Figures
+released r ks n = record { words = r .words; cached = ks; inUse = r .inUse - n; peak = r .peak; high = r .high; flag = r .flag }
+
+module _ {S : Type 0} (op : Ops S Figures) (places : ℕ) (sound : S → Bool) where
+  -- HANDING OUT: 2. lists from the start class upwards, each from its sentinel's next; a heap of n words lists at most n / 4 chunks
+  unfoldable pub firstFit : S → ℕ → Found
+  firstFit s z = searchAll (λ j c. findWalk (op .next s) (lengthAt op s) z j (op .count s / 4 - c) (op .next s j) c) (6 - startOf z) (startOf z) 0
+
+  -- 3 and 4. the chunk found is unlinked, cut and marked used; the figures follow
+  unfoldable pub fromList : S → ℕ → Found → Outcome S
+  fromList s z (at x c) =
+      let n = lengthAt op s x in
+      says 0 (byteOf x + 4) c (op .setRest (takeChunk op s (x - 6) n z) (counted (op .rest s) (portion n z) (byteOf x + portion n z)))
+  fromList s z (nowhere c) = says 3 0 c s
+  fromList s z lost = says 5 0 0 s
+
+  -- 1. a cached chunk that serves is handed out whole; the counters stay
+  unfoldable pub fromCache : S → ℕ → Chosen → Outcome S
+  fromCache s z (one x ks) = says 0 (byteOf x + 4) 0 (op .setRest s (withCached (op .rest s) ks))
+  fromCache s z none = fromList s z (firstFit s z)
+
+  -- a rounded size served, on a sound state
+  unfoldable pub serve : S → ℕ → Outcome S
+  serve s z = fromCache s z (choose (lengthAt op s) z (op .rest s .cached))
+
+  unfoldable pub handOut : S → ℕ → Outcome S
+  handOut s size =
+      let served = serve s (roundedOf size) in
+      let tested = pick (sound s) served (says 5 0 0 s) in
+      let small = pick (ltb 4294967284 size) (says 2 0 0 s) tested in
+      pick (eqb size 0) (says 1 0 0 s) small
+
+  -- TAKING BACK: the length of the live chunk whose payload begins at p, 0 where none does
+  unfoldable pub live : S → ℕ → ℕ
+  live s p =
+      let used = usedWalk (op .word s) (op .count s) 0 (p - 4) in
+      let cold = pick (listed (nameOf (p - 4)) (op .rest s .cached)) 0 used in
+      pick (leb 4 p) cold 0
+
+  -- the chunks ks cached, or, where they are too many, the oldest released
+  unfoldable pub settled : S → List ℕ → S
+  settled s [] = s
+  settled s (k ∷ ks) =
+      let n = lengthAt op s k in
+      let off = op .setRest (releaseChunk op s (k - 6) n) (released (op .rest s) ks n) in
+      pick (leb (length (k ∷ ks)) places) (op .setRest s (withCached (op .rest s) (k ∷ ks))) off
+
+  unfoldable pub takeBack : S → ℕ → Outcome S
+  takeBack s p =
+      let done = says 0 0 0 (settled s (op .rest s .cached ++ nameOf (p - 4) ∷ [])) in
+      let known = pick (eqb (live s p) 0) (says 4 0 0 s) done in
+      pick (sound s) known (says 5 0 0 s)

@@ -1,0 +1,53 @@
+-- DEMAND 3: two runs with the same requests answer alike, whatever the memory held and the tasks wrote; no call changes a live payload. Assumes nothing.
+use mathlib.Core.Path.{_≡_}
+use mathlib.Core.List.{List, _∷_, _++_}
+use Prim.Native.Nat.{ℕ, _+_, _-_, _/_, _<_}
+use Rattle.rules.specs.Lists.{Mem}
+use Rattle.rules.specs.Ops.{Ops}
+use Rattle.rules.specs.Chunks.{Chunk, free, busy, total}
+use Rattle.rules.specs.Tags.{Tag}
+use Rattle.rules.specs.Search.{at}
+use Rattle.rules.specs.TwoRuns.{Acts, requests}
+use Rattle.rules.specs.TwoRuns as two
+use Rattle.rules.specs.Rules.{Figures, Outcome, nameOf, live}
+use Rattle.rules.specs.Machine.{Model, Request, ask, give, Answer, answerOf, callM}
+use Rattle.rules.specs.Sound.{Shows}
+use Rattle.rules.specs.Demands.{hand, back}
+
+-- word i lies in the payload of a live chunk of m: used and not cached
+pub record LiveWord (m : Model) (i : ℕ) : Type 0 where
+  pub pre : List Chunk
+  pub size : ℕ
+  pub post : List Chunk
+  pub is : m .cs ≡ pre ++ busy size ∷ post
+  pub low : total pre / 4 < i
+  pub high : i < (total pre + size) / 4
+  pub cold : Mem (nameOf (total pre)) (m .figs .cached) → ⊥
+
+abbrev pub machine : ℕ → two.Machine Model Request Answer
+machine places = record { step = λ q m. callM places q m .after; reply = λ q m. answerOf (callM places q m) }
+
+module _ {S : Type 0} (op : Ops S Figures) (most places : ℕ) where
+  unfoldable pub call : Request → S → Outcome S
+  call (ask n) s = hand op most places s n
+  call (give p) s = back op most places s p
+
+  -- word i lies in a payload live at this moment
+  pub record Live (s : S) (i : ℕ) : Type 0 where
+    pub shows : Model
+    pub abs : Shows op most places s shows
+    pub word : LiveWord shows i
+
+  -- requests and stores, as runs are made of them
+  abbrev pub acts : Acts S Request Answer
+  acts = record { call = λ q s. call q s .after; answer = λ q s. answerOf (call q s); write = op .setWord; Live = Live }
+
+  -- the same layout and record; the same headers, footers and guard; the same links of every sentinel and free chunk
+  pub record Same (s t : S) : Type 0 where
+    pub shows : Model
+    pub left : Shows op most places s shows
+    pub right : Shows op most places t shows
+    pub figures : op .rest s ≡ op .rest t
+    pub tags : (i : ℕ) → Tag 0 (shows .cs) i → op .word s i ≡ op .word t i
+    pub nexts : (k x : ℕ) → k < 6 → Mem x (k ∷ shows .orders k) → op .next s x ≡ op .next t x
+    pub prevs : (k x : ℕ) → k < 6 → Mem x (k ∷ shows .orders k) → op .prev s x ≡ op .prev t x

@@ -1,0 +1,34 @@
+-- FIRST FIT with its compared count: along an order, along the links, and through the lists from a class upwards.
+use mathlib.Core.List.{List, [], _∷_}
+use Prim.Native.Nat.{ℕ, zero, suc}
+use lib.Dec.{eqb, leb}
+use Rattle.words.specs.Choice.{pick}
+
+-- a chunk, by its link, and how many were compared with it; or none among so many; or more compared than a heap of this length can list
+pub data Found : Type 0 where
+  at : ℕ → ℕ → Found
+  nowhere : ℕ → Found
+  lost : Found
+
+-- the first of xs that has z bytes; c were compared before
+unfoldable pub find : (ℕ → ℕ) → ℕ → List ℕ → ℕ → Found
+find size z [] c = nowhere c
+find size z (x ∷ xs) c = let r = find size z xs (suc c) in pick (leb z (size x)) (at x (suc c)) r
+
+-- the same, following the links until the sentinel k comes; at most `fuel` are compared
+unfoldable pub findWalk : (ℕ → ℕ) → (ℕ → ℕ) → ℕ → ℕ → ℕ → ℕ → ℕ → Found
+findWalk nx size z k zero x c = pick (eqb x k) (nowhere c) lost
+findWalk nx size z k (suc fuel) x c =
+    let r = findWalk nx size z k fuel (nx x) (suc c) in
+    let q = pick (leb z (size x)) (at x (suc c)) r in
+    pick (eqb x k) (nowhere c) q
+
+abbrev pub orElse : Found → (ℕ → Found) → Found
+orElse (at x d) f = at x d
+orElse (nowhere d) f = f d
+orElse lost f = lost
+
+-- n lists from class k on
+unfoldable pub searchAll : (ℕ → ℕ → Found) → ℕ → ℕ → ℕ → Found
+searchAll f zero k c = nowhere c
+searchAll f (suc n) k c = orElse (f k c) (λ d. searchAll f n (suc k) d)

@@ -1,0 +1,29 @@
+-- Headers, footers and the guard: the words f, from byte b on, show the chunks cs; l says whether what is left of them is used.
+-- Assumes nothing.
+use mathlib.Core.Path.{_≡_}
+use mathlib.Core.Logic.{_⊎_}
+use mathlib.Core.Bool.{Bool, true, false}
+use mathlib.Core.List.{List, [], _∷_}
+use Prim.Native.Nat.{ℕ, _+_, _-_, _*_, _/_}
+use Rattle.rules.specs.Chunks.{Chunk}
+
+abbrev pub bit : Bool → ℕ
+bit true = 1
+bit false = 0
+
+-- what the header of the first chunk, or the guard, says but for its left bit
+abbrev pub headTag : List Chunk → ℕ
+headTag [] = 2
+headTag (c ∷ cs) = c .len + 2 * bit (c .used)
+
+abbrev pub Foot : (ℕ → ℕ) → ℕ → Chunk → Type 0
+Foot f b c = c .used ≡ false → f ((b + c .len) / 4 - 1) ≡ c .len
+
+abbrev pub Tags : (ℕ → ℕ) → ℕ → Bool → List Chunk → Type 0
+Tags f b l [] = f (b / 4) ≡ 2 + bit l
+Tags f b l (c ∷ cs) = (f (b / 4) ≡ headTag (c ∷ cs) + bit l) × Foot f b c × Tags f (b + c .len) (c .used) cs
+
+-- the words that tags stand in
+abbrev pub Tag : ℕ → List Chunk → ℕ → Type 0
+Tag b [] i = i ≡ b / 4
+Tag b (c ∷ cs) i = (i ≡ b / 4) ⊎ (((c .used ≡ false) × (i ≡ (b + c .len) / 4 - 1)) ⊎ Tag (b + c .len) cs i)
