@@ -20,7 +20,11 @@ pub fn link_to_hdr(l: Link) -> WordIndex
     ensures { λ r. ⌜ r .0 ≡ links .word (l .0) ⌝ }
 {
     let n = l.0 as usize;
-    if n < 6 { WordIndex(0) } else { WordIndex(n - 6) }
+    if n < 6 {
+        WordIndex(0)
+    } else {
+        WordIndex(n - 6)
+    }
 }
 
 // heap.rs: ptr_to_link. The link of a header from word 65,530 on does not fit.
@@ -56,5 +60,9 @@ pub fn payload_to_hdr(payload: ByteOffset) -> WordIndex
     ensures { λ r. ⌜ r .0 ≡ payloads .word (payload .0) ⌝ }
 {
     let p = payload.0;
-    if p < 4 { WordIndex(0) } else { WordIndex(((p - 4) / 4) as usize) }
+    if p < 4 {
+        WordIndex(0)
+    } else {
+        WordIndex(((p - 4) / 4) as usize)
+    }
 }
