@@ -2,4 +2,3 @@ pub mod Seen
 pub mod Mark
 pub mod Chunk
 pub mod Found
-pub mod Answer
