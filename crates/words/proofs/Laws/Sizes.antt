@@ -7,7 +7,7 @@ use lib.Count.{leadingZeros, leading-length}
 use lib.Pow.{pow-mono}
 use borrow.Author.Tests.{le-leb, lt-leb}
 use Rattle.words.specs.Sizes.{classOf, classByZeros, startOf, leastOf, thresholdOf}
-use Rattle.words.proofs.Choice.{by-order}
+use Rattle.words.proofs.Laws.Choice.{by-order}
 
 -- the class counts the doublings from 32 that a length reaches
 pub class-counts : (n : ℕ) → classOf n ≡ min (n / 32) 1 + min (n / 64) 1 + min (n / 128) 1 + min (n / 256) 1 + min (n / 512) 1
