@@ -69,9 +69,9 @@ module _ (W : Width) (a : Side) (ws : List ℕ) (w l : ℕ) where
   pub link-setLink-other : (u : ℕ) → u ≢ w → linkAt W a (setLinkAt W a ws w l) u ≡ linkAt W a ws u
   link-setLink-other u h = link-setLink-apart a u (λ e. h (omega arith))
 
-  -- a store into any word but the link's keeps the link
-  pub link-set : (i x : ℕ) → w + W .place a ≢ i → linkAt W a (set ws i x) w ≡ linkAt W a ws w
-  link-set i x h = ap (W .get a) (getD-set-other ws i (w + W .place a) x 0 h)
+-- a store into any word but the link's keeps the link
+pub link-set : (W : Width) (a : Side) (ws : List ℕ) (w i x : ℕ) → w + W .place a ≢ i → linkAt W a (set ws i x) w ≡ linkAt W a ws w
+link-set W a ws w i x h = ap (W .get a) (getD-set-other ws i (w + W .place a) x 0 h)
 
 module _ {W : Width} (L : Lawful W) (a : Side) (ws : List ℕ) (w l : ℕ) (fits : l < W .limit) where
   -- the link that was stored is read
@@ -89,3 +89,46 @@ module _ {W : Width} (L : Lawful W) (a : Side) (ws : List ℕ) (w l : ℕ) (fits
   -- so at all headers that stand at even words
   pub link-setLink-even : w % 2 ≡ 0 → (u : ℕ) → u % 2 ≡ 0 → linkAt W (other a) (setLinkAt W a ws w l) u ≡ linkAt W (other a) ws u
   link-setLink-even h u k = link-setLink-side u (λ e. omega (arith, L .near a, L .near (other a)))
+
+-- ---- links of nodes, in the sentinels and the words
+
+-- storing a node's link keeps the sentinels' length
+pub length-setSentinel : (ss : List ℕ) (l v : ℕ) → length (setSentinel ss l v) ≡ length ss
+length-setSentinel ss l v = by-cases 6 l (λ h. rw (le-ltb l 6 h)) (λ h. rw (lt-ltb l 6 h) (length-set ss l v))
+
+module _ (W : Width) (a : Side) (ws : List ℕ) (l v : ℕ) where
+  -- and the words' length
+  pub length-setChunk : length (setChunkLink W a ws l v) ≡ length ws
+  length-setChunk = by-cases 6 l (λ h. rw (le-ltb l 6 h) (length-setLink W a ws (l - 6) v)) (λ h. rw (lt-ltb l 6 h))
+
+  -- and every word but the one that a chunk's link stands in
+  pub at-setChunk : (i : ℕ) → (6 ≤ l → i ≢ l - 6 + W .place a) → at (setChunkLink W a ws l v) i ≡ at ws i
+  at-setChunk i d = by-cases 6 l (λ h. rw (le-ltb l 6 h) (at-setLink W a ws (l - 6) v i (d h))) (λ h. rw (lt-ltb l 6 h))
+
+  -- another node's link of that side is kept
+  pub node-store-other : (ss : List ℕ) (m : ℕ) → m ≢ l → nodeLink W a (setSentinel ss l v) (setChunkLink W a ws l v) m ≡ nodeLink W a ss ws m
+  node-store-other ss m d =
+      by-cases 6 l
+      (λ h. by-cases 6 m (λ k. rw (le-ltb l 6 h, le-ltb m 6 k) (link-setLink-other W a ws (l - 6) v (m - 6) (omega arith))) (λ k. rw (le-ltb l 6 h, lt-ltb m 6 k)))
+      (λ h. by-cases 6 m (λ k. rw (lt-ltb l 6 h, le-ltb m 6 k)) (λ k. rw (lt-ltb l 6 h, lt-ltb m 6 k) (getD-set-other ss l m v 0 d)))
+
+-- a store into any word but the one that the node's link stands in keeps the link
+pub node-set : (W : Width) (a : Side) (ss ws : List ℕ) (l i x : ℕ) → (6 ≤ l → l - 6 + W .place a ≢ i) → nodeLink W a ss (set ws i x) l ≡ nodeLink W a ss ws l
+node-set W a ss ws l i x d = by-cases 6 l (λ h. rw (le-ltb l 6 h) (link-set W a ws (l - 6) i x (d h))) (λ h. rw (lt-ltb l 6 h))
+
+module _ {W : Width} (L : Lawful W) (a : Side) (ws : List ℕ) (l v : ℕ) (fits : v < W .limit) where
+  -- the node's link that was stored is read
+  pub node-store-same : (ss : List ℕ) → (l < 6 → l < length ss) → (6 ≤ l → l - 6 + W .place a < length ws) → nodeLink W a (setSentinel ss l v) (setChunkLink W a ws l v) l ≡ v
+  node-store-same ss sentinel chunk =
+      by-cases 6 l
+      (λ h. rw (le-ltb l 6 h) (link-setLink-same L a ws (l - 6) v fits (chunk h)))
+      (λ h. rw (lt-ltb l 6 h) (getD-set-same ss l v 0 (sentinel h)))
+
+  -- every node's link of the other side is kept, if chunks stand at even words
+  pub node-store-side : (ss : List ℕ) (m : ℕ) → (6 ≤ l → l % 2 ≡ 0) → (6 ≤ m → m % 2 ≡ 0) → nodeLink W (other a) ss (setChunkLink W a ws l v) m ≡ nodeLink W (other a) ss ws m
+  node-store-side ss m e f =
+      by-cases 6 l
+      (λ h. by-cases 6 m
+      (λ k. let p = e h in let q = f k in rw (le-ltb l 6 h, le-ltb m 6 k) (link-setLink-even L a ws (l - 6) v fits (omega arith) (m - 6) (omega arith)))
+      (λ k. rw (le-ltb l 6 h, lt-ltb m 6 k)))
+      (λ h. rw (lt-ltb l 6 h))
