@@ -16,7 +16,7 @@ use Rattle.words.specs.Sizes.{classOf}
 use Rattle.words.specs.Tags.{at, headerOf, lengthOf, freeᵇ, leftFreeᵇ, leftUsed, leftFreed, rightOf, footerOf, changed}
 use Rattle.words.specs.Links.{narrow, prev, next, linkAt, setLinkAt, nodeLink, setSentinel, setChunkLink}
 use Rattle.words.specs.Numbers.{numbers}
-use Rattle.words.proofs.Numbers.{numbers-at, numbers-set}
+use Rattle.words.proofs.Laws.Numbers.{numbers-at, numbers-set}
 use Rattle.rules.specs.Steps.{portion, unlink, link, setLeft, clearLeft, markFree, markUsed, returnExcess, takeChunk, leftFree, rightFree, merge, merged, releaseChunk}
 use Rattle.rules.specs.Making.{State}
 use Rattle.heap.specs.declared.record.Record.{Record}

@@ -1,7 +1,7 @@
 // Names of a header: a link, a word index and a byte offset are three types that cannot be mixed.
 //
 // A link below 6 names a sentinel; the header at word w has link w + 6, byte offset 4 w and payload offset 4 w + 4.
-// Contracts cite specs/Names.antt; that no conversion loses anything is proved once for all of them in proofs/Names.antt.
+// Contracts cite specs/Names.antt; that no conversion loses anything is proved once for all of them in proofs/Laws/Names.antt.
 ghost use mathlib.Core.Path.{_≡_};
 ghost use Rattle.words.specs.Names.{links, offsets, payloads, heldName};
 

@@ -1,6 +1,6 @@
 -- `words::sizes::chunk_size_to_list_index` meets its contract: each arm is the count of doublings from 32 that its range reaches.
 use native.Mathlib.Omega.{arith}
-use Rattle.words.proofs.sizes.Laws.{class-counts}
+use Rattle.words.proofs.Laws.Sizes.{class-counts}
 use Rattle.words.proofs.sizes.chunk_size_to_list_index.Statement.{statement}
 use Rattle.words.proofs.sizes.chunk_size_to_list_index.Tie as tie
 

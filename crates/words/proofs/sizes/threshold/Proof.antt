@@ -1,6 +1,6 @@
 -- `words::sizes::threshold` meets its contract: below 512 each arm is the least length of the next class.
 use native.Mathlib.Omega.{arith}
-use Rattle.words.proofs.sizes.Laws.{class-counts, threshold-small, threshold-large}
+use Rattle.words.proofs.Laws.Sizes.{class-counts, threshold-small, threshold-large}
 use Rattle.words.proofs.sizes.threshold.Statement.{statement}
 use Rattle.words.proofs.sizes.threshold.Tie as tie
 

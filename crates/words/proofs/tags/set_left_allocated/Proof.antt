@@ -1,6 +1,6 @@
 -- `words::tags::set_left_allocated` meets its contract: it stores what `leftUsed` makes of the word that it reads.
 use Rattle.words.specs.Tags.{leftUsed}
-use Rattle.words.proofs.tags.Laws.{changed-by}
+use Rattle.words.proofs.Laws.Tags.{changed-by}
 use borrow.Author.Needs.{needs}
 use Rattle.words.proofs.tags.set_left_allocated.Statement.{statement}
 use Rattle.words.proofs.tags.set_left_allocated.Tie as tie

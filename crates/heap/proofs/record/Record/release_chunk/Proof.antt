@@ -1,4 +1,9 @@
 use borrow.Author.Needs.{needs}
+use mathlib.Core.Path.{refl}
+use native.Mathlib.Omega.{arith}
+use Prim.Native.Nat.{_+_, _<_, _^_}
+use Rattle.words.proofs.Laws.Sizes.{class-below}
+use Rattle.heap.proofs.Joins.{release-room, release-by}
 use Rattle.heap.proofs.record.Record.release_chunk.Statement.{statement}
 use Rattle.heap.proofs.record.Record.release_chunk.Tie as tie
 use Rattle.heap.proofs.record.Record.release_chunk.Reads as reads
@@ -37,11 +42,17 @@ hdr-to-left-hdr-requires c κs = search needs
 
 -- src/merge.rt:91:27
 add-m : tie.Need-add-m
-add-m c = ?
+add-m c = 
+    let below : c .before .before .before .before .before .before .before .before .args .l .0 < 65536 = omega (arith, c .before .before .before .before .before .before .before .before .good) in
+    let room = release-room _ _ _ _ _ _ _ (c .before .before .before .before .before .before .before .before .pre) below (c .before .before .before .before .before .before .before .before .fits .n .fits) (c .before .before .before .before .before .before .link-to-hdr .ensures) (c .before .before .before .before .before .hdr-to-right-hdr .ensures) (c .before .before .before .left-free .ensures) (c .before .right-free .ensures) in
+    omega (arith, c .before .before .before .before .before .before .link-to-hdr .ensures)
 
 -- src/merge.rt:91:17
 add-m-2 : tie.Need-add-m-2
-add-m-2 c = ?
+add-m-2 c = 
+    let below : c .before .before .before .before .before .before .before .before .args .l .0 < 65536 = omega (arith, c .before .before .before .before .before .before .before .before .good) in
+    let room = release-room _ _ _ _ _ _ _ (c .before .before .before .before .before .before .before .before .pre) below (c .before .before .before .before .before .before .before .before .fits .n .fits) (c .before .before .before .before .before .before .link-to-hdr .ensures) (c .before .before .before .before .before .hdr-to-right-hdr .ensures) (c .before .before .before .left-free .ensures) (c .before .right-free .ensures) in
+    omega (arith, c .before .before .before .before .before .before .link-to-hdr .ensures)
 
 -- src/merge.rt:92:13
 hdr-to-link-requires : tie.Need-hdr-to-link-requires
@@ -57,7 +68,7 @@ merge-neighbor-if-possible-requires c κs = search needs
 
 -- src/merge.rt:96:9
 set-free-chunk-hdr-ftr-requires : tie.Need-set-free-chunk-hdr-ftr-requires
-set-free-chunk-hdr-ftr-requires c κs = ?
+set-free-chunk-hdr-ftr-requires c κs = omega (arith, c .before .before .before .before .before .before .before .before .before .before .before .before .before .before .before .good, c .before .before .before .before .before .before .before .before .before .before .before .before .before .link-to-hdr .ensures, c .before .before .before .before .before .before .before .hdr-to-left-hdr .ensures)
 
 -- src/merge.rt:97:36
 hdr-to-right-hdr-requires-2 : tie.Need-hdr-to-right-hdr-requires-2
@@ -73,7 +84,9 @@ chunk-size-to-list-index-requires c κs = search needs
 
 -- src/merge.rt:99:9
 link-chunk-requires : tie.Need-link-chunk-requires
-link-chunk-requires c κs = ?
+link-chunk-requires c κs = 
+    let class = class-below (c .before .before .before .before .before .before .before .before .before .before .before .before .before .before .before .before .before .before .before .before .left-free .result + (c .before .before .before .before .before .before .before .before .before .before .before .before .before .before .before .before .before .before .before .before .before .before .before .before .before .args .n + c .before .before .before .before .before .before .before .before .before .before .before .before .before .before .before .before .before .before .right-free .result)) in
+    (omega (arith, c .before .chunk-size-to-list-index .ensures), omega (arith, c .before .before .before .before .before .before .before .before .before .before .before .before .before .before .before .before .before .before .before .before .before .before .before .before .before .good, c .before .before .before .before .before .before .before .before .before .before .before .before .before .before .before .before .before .before .before .before .before .before .before .link-to-hdr .ensures, c .before .before .before .before .before .before .before .before .before .before .before .before .before .before .before .before .before .hdr-to-left-hdr .ensures, c .before .before .before .before .before .before .before .before .before .before .before .before .before .before .before .before .hdr-to-link .ensures))
 
 -- src/merge.rt:82:5
 same-length : tie.Need-same-length
@@ -81,7 +94,14 @@ same-length c = search needs
 
 -- src/merge.rt:82:5
 returns : tie.Need-returns
-returns c = ?
+returns c = 
+    let below : c .before .before .before .before .before .before .before .before .before .before .before .before .before .before .before .before .before .before .before .before .before .before .before .before .before .before .before .before .args .l .0 < 65536 = omega (arith, c .before .before .before .before .before .before .before .before .before .before .before .before .before .before .before .before .before .before .before .before .before .before .before .before .before .before .before .before .good) in
+    let room = release-room _ _ _ _ _ _ _ (c .before .before .before .before .before .before .before .before .before .before .before .before .before .before .before .before .before .before .before .before .before .before .before .before .before .before .before .before .pre) below (c .before .before .before .before .before .before .before .before .before .before .before .before .before .before .before .before .before .before .before .before .before .before .before .before .before .before .before .before .fits .n .fits) (c .before .before .before .before .before .before .before .before .before .before .before .before .before .before .before .before .before .before .before .before .before .before .before .before .before .before .link-to-hdr .ensures) (c .before .before .before .before .before .before .before .before .before .before .before .before .before .before .before .before .before .before .before .before .before .before .before .before .before .hdr-to-right-hdr .ensures) (c .before .before .before .before .before .before .before .before .before .before .before .before .before .before .before .before .before .before .before .before .before .before .before .left-free .ensures) (c .before .before .before .before .before .before .before .before .before .before .before .before .before .before .before .before .before .before .before .before .before .right-free .ensures) in
+    let sum : c .before .before .before .before .before .before .before .before .before .before .before .before .before .before .before .before .before .before .before .before .before .before .before .left-free .result + (c .before .before .before .before .before .before .before .before .before .before .before .before .before .before .before .before .before .before .before .before .before .before .before .before .before .before .before .before .args .n + c .before .before .before .before .before .before .before .before .before .before .before .before .before .before .before .before .before .before .before .before .before .right-free .result) < 2 ^ 32 = omega (arith, c .before .before .before .before .before .before .before .before .before .before .before .before .before .before .before .before .before .before .before .before .before .before .before .before .before .before .link-to-hdr .ensures) in
+    release-by (c .before .before .before .before .before .before .before .before .before .before .before .before .before .before .before .before .before .before .before .before .before .before .before .before .before .before .before .before .args .self) (c .before .before .before .before .before .before .before .before .before .before .before .before .before .before .before .before .merge-neighbor-if-possible .result) (c .before .before .link-chunk .result) _ _ _ _ _ _ _ _ _ _ _ _ _ _ _ _ _ _ _ (c .before .before .before .before .before .before .before .before .before .before .before .before .before .before .before .before .before .before .before .before .before .before .before .before .before .before .before .before .pre) (c .before .before .before .before .before .before .before .before .before .before .before .before .before .before .before .before .before .before .before .before .before .before .before .before .before .before .before .before .fits .n .fits) below (c .before .before .before .before .before .before .before .before .before .before .before .before .before .before .before .before .before .before .before .before .before .before .before .before .before .before .link-to-hdr .ensures) (c .before .before .before .before .before .before .before .before .before .before .before .before .before .before .before .before .before .before .before .before .before .before .before .before .before .hdr-to-right-hdr .ensures)
+    (c .before .before .before .before .before .before .before .before .before .before .before .before .before .before .before .before .before .before .before .before .before .before .before .left-free .ensures) (c .before .before .before .before .before .before .before .before .before .before .before .before .before .before .before .before .before .before .before .before .before .right-free .ensures) (c .before .before .before .before .before .before .before .before .before .before .before .before .before .before .before .before .before .before .before .before .hdr-to-left-hdr .ensures) refl (c .before .before .before .before .before .before .before .before .before .before .before .before .before .before .before .before .before .before .before .hdr-to-link .ensures) refl refl (c .before .before .before .before .before .before .before .before .before .before .before .before .before .before .before .before .before .hdr-to-link2 .ensures)
+    (c .before .before .before .before .before .before .before .before .before .before .before .before .before .before .before .before .merge-neighbor-if-possible .ensures) (c .before .before .before .before .before .before .before .before .before .before .before .before .set-free-chunk-hdr-ftr .ensures) (c .before .before .before .before .before .before .before .before .hdr-to-right-hdr2 .ensures) (c .before .before .before .before .before .before .before .set-left-free .ensures)
+    (c .before .before .before .before .chunk-size-to-list-index .ensures) sum (c .before .before .link-chunk .ensures)
 
 pub release-chunk-spec : {M : Type 1} → statement M
 release-chunk-spec =

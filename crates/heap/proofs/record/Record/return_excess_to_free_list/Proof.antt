@@ -1,7 +1,7 @@
 use borrow.Author.Needs.{needs}
 use native.Mathlib.Omega.{arith}
 use Prim.Native.Nat.{_<_, _^_}
-use Rattle.words.proofs.Sizes.{class-below}
+use Rattle.words.proofs.Laws.Sizes.{class-below}
 use Rattle.heap.proofs.Joins.{excess-whole, excess-cut}
 use Rattle.heap.proofs.record.Record.return_excess_to_free_list.Statement.{statement}
 use Rattle.heap.proofs.record.Record.return_excess_to_free_list.Tie as tie
@@ -35,7 +35,7 @@ same-length c = search needs
 returns : tie.Need-returns
 returns c = 
     let room : c .before .before .before .before .before .before .before .before .args .hdr .0 < 2 ^ 32 = omega (arith, c .before .before .before .before .before .before .before .before .pre) in
-    excess-whole _ _ _ _ _ _ _ _ room (c .before .before .before .before .before .before .before .before .fits .total .fits) (c .before .before .before .before .before .before .less .ensures) (c .before .before .before .before .before .if1 .taken) (c .before .before .before .hdr-to-right-hdr .ensures) (c .before .before .set-left-allocated .ensures)
+    excess-whole (c .before .before .before .before .before .before .before .before .args .self) _ _ _ _ _ _ _ room (c .before .before .before .before .before .before .before .before .fits .total .fits) (c .before .before .before .before .before .before .less .ensures) (c .before .before .before .before .before .if1 .taken) (c .before .before .before .hdr-to-right-hdr .ensures) (c .before .before .set-left-allocated .ensures)
 
 -- src/split.rt:24:13
 hdr-to-right-hdr-requires-2 : tie.Need-hdr-to-right-hdr-requires-2
@@ -65,7 +65,7 @@ same-length-2 c = search needs
 
 -- src/split.rt:15:5
 returns-2 : tie.Need-returns-2
-returns-2 c = excess-cut _ _ _ _ _ _ _ _ _ _ _ _ (c .before .before .before .before .before .before .before .before .before .before .before .before .before .before .pre) (c .before .before .before .before .before .before .before .before .before .before .before .before .before .before .fits .size .fits) (c .before .before .before .before .before .before .before .before .before .before .before .before .less .ensures) (c .before .before .before .before .before .before .before .before .before .before .before .if1 .left) (c .before .before .before .before .before .before .before .before .before .before .hdr-to-right-hdr2 .ensures) (c .before .before .before .before .before .before .before .before .set-free-chunk-hdr-ftr .ensures)
+returns-2 c = excess-cut (c .before .before .before .before .before .before .before .before .before .before .before .before .before .before .args .self) (c .before .before .link-chunk .result) _ _ _ _ _ _ _ _ _ _ (c .before .before .before .before .before .before .before .before .before .before .before .before .before .before .pre) (c .before .before .before .before .before .before .before .before .before .before .before .before .before .before .fits .size .fits) (c .before .before .before .before .before .before .before .before .before .before .before .before .less .ensures) (c .before .before .before .before .before .before .before .before .before .before .before .if1 .left) (c .before .before .before .before .before .before .before .before .before .before .hdr-to-right-hdr2 .ensures) (c .before .before .before .before .before .before .before .before .set-free-chunk-hdr-ftr .ensures)
     (c .before .before .before .before .before .chunk-size-to-list-index .ensures) (c .before .before .before .hdr-to-link .ensures) (c .before .before .link-chunk .ensures)
 
 pub return-excess-to-free-list-spec : {M : Type 1} → statement M

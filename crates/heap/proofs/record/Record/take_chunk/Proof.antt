@@ -36,7 +36,7 @@ same-length c = search needs
 
 -- src/split.rt:31:5
 returns : tie.Need-returns
-returns c = take-by _ _ _ _ _ _ _ _ _ _ _ _ (c .before .before .before .before .before .before .before .before .before .before .before .before .before .before .before .pre .0) (c .before .before .before .before .before .before .before .before .before .before .before .before .before .link-to-hdr .ensures) (c .before .before .before .before .before .before .before .before .before .before .before .unlink-chunk .ensures) (c .before .before .before .before .before .before .before .portion-of .ensures) (c .before .before .before .before .before .before .set-hdr .ensures) (c .before .before .return-excess-to-free-list .ensures)
+returns c = take-by (c .before .before .before .before .before .before .before .before .before .before .before .before .before .before .before .args .self) (c .before .before .before .before .before .before .before .before .before .before .before .unlink-chunk .result) (c .before .before .return-excess-to-free-list .result) _ _ _ _ _ _ _ _ _ (c .before .before .before .before .before .before .before .before .before .before .before .before .before .before .before .pre .0) (c .before .before .before .before .before .before .before .before .before .before .before .before .before .link-to-hdr .ensures) (c .before .before .before .before .before .before .before .before .before .before .before .unlink-chunk .ensures) (c .before .before .before .before .before .before .before .portion-of .ensures) (c .before .before .before .before .before .before .set-hdr .ensures) (c .before .before .return-excess-to-free-list .ensures)
 
 pub take-chunk-spec : {M : Type 1} → statement M
 take-chunk-spec =
