@@ -2,3 +2,4 @@ pub mod Seen
 pub mod Mark
 pub mod Chunk
 pub mod Found
+pub mod Answer
