@@ -1,18 +1,21 @@
--- Laws of `specs/Links.antt`, over the side and the link width. Assumes nothing.
+-- Laws of `specs/Links.antt`, said once for both sides and every link width. Assumes nothing.
+--     Lawful, narrow-lawful, wide-lawful     what a width has to keep, and that both widths keep it
+--     link-setLink-same, -other, -side, -even, -apart     links in the words after one is stored
+--     length-setLink, at-setLink, link-set                what else a store keeps
+--     node-store-same, -other, -side, node-set            the same of nodes, in the sentinels and the words
+--     length-setSentinel, length-setChunk, at-setChunk
 use mathlib.Core.Path.{_≡_, refl, ap, _∙_}
 use mathlib.Core.Logic.{_≢_}
 use mathlib.Core.List.{List}
-use Prim.Native.Nat.{ℕ, _+_, _-_, _*_, _/_, _%_, _≤_, _<_, _^_}
-use native.Mathlib.Decide.{ℕ-discrete}
+use Prim.Native.Nat.{ℕ, _+_, _-_, _%_, _≤_, _<_}
 use native.Mathlib.Omega.{arith}
-use lib.Dec.{ltb}
 use lib.ListN.{length, getD, set, length-set}
-use lib.Seq.{getD-set-same, getD-set-other, set-out}
+use lib.Seq.{getD-set-same, getD-set-other}
 use borrow.Author.Tests.{lt-ltb, le-ltb}
 use Rattle.words.specs.Tags.{at}
+use Rattle.words.specs.Links.{Side, prev, next, Width, half, withHalf, wordAfter, narrow, wide, linkAt, setLinkAt, nodeLink, setSentinel, setChunkLink}
 use Rattle.words.proofs.Laws.Choice.{by-cases}
 use Rattle.words.proofs.Laws.Tags.{at-set-unseen}
-use Rattle.words.specs.Links.{Side, prev, next, Width, half, withHalf, wordAfter, narrow, wide, linkAt, setLinkAt, nodeLink, setSentinel, setChunkLink}
 
 -- the other side
 abbrev pub other : Side → Side
@@ -26,6 +29,7 @@ pub record Lawful (W : Width) : Type 0 where
   pub get-put : (a : Side) (x l : ℕ) → l < W .limit → W .get a (W .put a x l) ≡ l
   pub get-put-other : (a : Side) (x l : ℕ) → l < W .limit → W .place a ≡ W .place (other a) → W .get (other a) (W .put a x l) ≡ W .get (other a) x
 
+-- the half that was stored is read, and the other half is kept
 half-same : (a : Side) (x l : ℕ) → l < 65536 → half a (withHalf a x l) ≡ l
 half-same prev x l h = omega arith
 half-same next x l h = omega arith
@@ -34,9 +38,11 @@ half-other : (a : Side) (x l : ℕ) → l < 65536 → half (other a) (withHalf a
 half-other prev x l h = omega arith
 half-other next x l h = omega arith
 
+-- 16-bit links are lawful: both stand in one word
 pub narrow-lawful : Lawful narrow
 narrow-lawful = record { near = λ a. (omega arith, omega arith); get-put = half-same; get-put-other = λ a x l h e. half-other a x l h }
 
+-- 32-bit links stand in the two words after the header, each in its own
 two-words : (a : Side) → (1 ≤ wordAfter a) × (wordAfter a ≤ 2)
 two-words prev = (omega arith, omega arith)
 two-words next = (omega arith, omega arith)
@@ -45,6 +51,7 @@ words-differ : (a : Side) → wordAfter a ≡ wordAfter (other a) → ⊥
 words-differ prev e = omega arith
 words-differ next e = omega arith
 
+-- 32-bit links are lawful: each has a word to itself
 pub wide-lawful : Lawful wide
 wide-lawful = record { near = two-words; get-put = λ a x l h. refl; get-put-other = λ a x l h e. absurd (words-differ a e) }
 
@@ -67,7 +74,7 @@ module _ (W : Width) (a : Side) (ws : List ℕ) (w l : ℕ) where
 
   -- another header's link of that side
   pub link-setLink-other : (u : ℕ) → u ≢ w → linkAt W a (setLinkAt W a ws w l) u ≡ linkAt W a ws u
-  link-setLink-other u h = link-setLink-apart a u (λ e. h (omega arith))
+  link-setLink-other u h = link-setLink-apart a u (omega arith)
 
 -- a store into any word but the link's keeps the link
 pub link-set : (W : Width) (a : Side) (ws : List ℕ) (w i x : ℕ) → w + W .place a ≢ i → linkAt W a (set ws i x) w ≡ linkAt W a ws w

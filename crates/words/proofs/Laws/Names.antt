@@ -31,12 +31,14 @@ module _ (N : Naming) where
   pub name-again : (n w : ℕ) → n ≡ N .name w → N .name (N .word n) ≡ n
   name-again n w e = ap (λ x. N .name (N .word x)) e ∙ ap (N .name) (N .back w) ∙ sym e
 
--- the links, byte offsets and payload offsets that fit their types
+-- a link of a header below word 65,530 is held as it is
 pub link-held : (w : ℕ) → w < 65530 → heldName links w ≡ w + 6
 link-held w h = held-is links w (omega arith)
 
+-- and so a header's byte offset in the first four gigabytes
 pub offset-held : (w : ℕ) → w < 2 ^ 30 → heldName offsets w ≡ 4 * w
 offset-held w h = held-is offsets w (omega arith)
 
+-- and its payload's
 pub payload-held : (w : ℕ) → w + 1 < 2 ^ 30 → heldName payloads w ≡ 4 * w + 4
 payload-held w h = held-is payloads w (omega arith)

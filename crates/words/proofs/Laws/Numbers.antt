@@ -1,4 +1,4 @@
--- Laws of `specs/Numbers.antt`.
+-- Laws of `specs/Numbers.antt`: reads and stores of an array of links are those of the list of its numbers. Assumes nothing.
 use mathlib.Core.Path.{_≡_, refl, ap}
 use mathlib.Core.List.{List, [], _∷_}
 use Prim.Native.Nat.{ℕ, zero, suc}

@@ -2,15 +2,17 @@
 --     class-counts                      the class counts the doublings from 32 that a length reaches; the other laws of classes rest on it
 --     class-below, class-mono           there are six classes, and a longer chunk's is no lower
 --     class-reaches, class-least        a length is at least the least of a class exactly if its own class is no lower
---     threshold-small, threshold-large  what the threshold is below 512, and from 512 on
+--     class-is                          the class is the one whose range holds the length
+--     threshold-small, threshold-is, threshold-large     what the threshold is below 512, and from 512 on
 --     threshold-above, threshold-from   it is above a size below 512, and never below the size
 --     threshold-reached, threshold-class     below 512 a length reaches it exactly if its class is higher
 --     class-by-zeros                    counted by leading zeros the class is the same, for every 32-bit length
-use mathlib.Core.Path.{_≡_, refl, sym, subst}
+use mathlib.Core.Path.{_≡_, refl, sym}
 use Prim.Native.Nat.{ℕ, zero, suc, _+_, _*_, _/_, _^_, _≤_, _<_, min}
 use native.Mathlib.Nat.{le-refl, le-trans, pow-suc, le-of-suc-le-suc}
 use native.Mathlib.Omega.{arith, by-contra}
 use lib.Count.{leadingZeros, leading-length}
+use lib.Dec.{lit<}
 use lib.Pow.{pow-mono}
 use borrow.Author.Tests.{le-leb, lt-leb}
 use Rattle.words.specs.Sizes.{classOf, classByZeros, leastOf, thresholdOf}
@@ -51,6 +53,13 @@ class-least (suc (suc (suc zero))) n h = omega (arith, class-counts n)
 class-least (suc (suc (suc (suc zero)))) n h = omega (arith, class-counts n)
 class-least (suc (suc (suc (suc (suc k))))) n h = omega (arith, class-counts n)
 
+-- so the class is the one whose range holds the length
+pub class-is : (n k : ℕ) → k < 6 → leastOf k ≤ n → n < leastOf (suc k) → k ≡ classOf n
+class-is n k b low high =
+    let up = class-reaches k n b low in
+    let down : classOf n ≤ k = by-contra (classOf n) k (λ h. omega (arith, class-least (suc k) n h)) in
+    omega arith
+
 -- a longer chunk's class is no lower
 pub class-mono : (m n : ℕ) → m ≤ n → classOf m ≤ classOf n
 class-mono m n h = class-reaches (classOf m) n (class-below m) (le-trans (class-least (classOf m) m (le-refl (classOf m))) h)
@@ -60,6 +69,13 @@ class-mono m n h = class-reaches (classOf m) n (class-below m) (le-trans (class-
 -- below 512 the threshold is the least length of the next class
 pub threshold-small : (s k : ℕ) → s < 512 → k ≡ classOf s → leastOf (suc k) ≡ thresholdOf s
 threshold-small s k h e = rw (lt-leb 512 s h, e)
+
+-- so it is where the range of one of the first five classes ends
+pub threshold-is : (s k : ℕ) → k < 5 → leastOf k ≤ s → s < leastOf (suc k) → leastOf (suc k) ≡ thresholdOf s
+threshold-is s k b low high =
+    let e = class-is s k (omega arith) low high in
+    let small : s < 512 = by-contra (suc s) 512 (λ h. omega (arith, class-reaches 5 s (lit< tt) (le-of-suc-le-suc h))) in
+    threshold-small s k small e
 
 -- from 512 the threshold is the length itself
 pub threshold-large : (s : ℕ) → 512 ≤ s → s ≡ thresholdOf s

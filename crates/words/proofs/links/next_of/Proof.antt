@@ -1,8 +1,7 @@
 -- `words::links::next_of` meets its contract: a link below 6 names a sentinel, and any other a chunk.
 use borrow.Author.Tests.{lt-ltb, le-ltb}
-use Rattle.words.proofs.Laws.Numbers.{numbers-at}
-use mathlib.Core.Path.{sym}
 use borrow.Author.Needs.{needs}
+use Rattle.words.proofs.Laws.Numbers.{numbers-at}
 use Rattle.words.proofs.links.next_of.Statement.{statement}
 use Rattle.words.proofs.links.next_of.Tie as tie
 

@@ -1,6 +1,6 @@
 -- `words::links::set_next_field` meets its contract: it stores `next`'s half into the link word that it reads.
-use Rattle.words.specs.Links.{setLinkAt}
 use borrow.Author.Needs.{needs}
+use Rattle.words.specs.Links.{setLinkAt}
 use Rattle.words.proofs.links.set_next_field.Statement.{statement}
 use Rattle.words.proofs.links.set_next_field.Tie as tie
 

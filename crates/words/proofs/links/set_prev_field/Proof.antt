@@ -1,6 +1,6 @@
 -- `words::links::set_prev_field` meets its contract: it stores `prev`'s half into the link word that it reads.
-use Rattle.words.specs.Links.{setLinkAt}
 use borrow.Author.Needs.{needs}
+use Rattle.words.specs.Links.{setLinkAt}
 use Rattle.words.proofs.links.set_prev_field.Statement.{statement}
 use Rattle.words.proofs.links.set_prev_field.Tie as tie
 

@@ -1,7 +1,7 @@
 -- `words::sizes::list_index_by_zeros` meets its contract: it reckons `classByZeros`, which is the class of every 32-bit length.
 use native.Mathlib.Omega.{arith}
-use Rattle.words.proofs.Laws.Sizes.{class-by-zeros}
 use borrow.Author.Needs.{needs}
+use Rattle.words.proofs.Laws.Sizes.{class-by-zeros}
 use Rattle.words.proofs.sizes.list_index_by_zeros.Statement.{statement}
 use Rattle.words.proofs.sizes.list_index_by_zeros.Tie as tie
 

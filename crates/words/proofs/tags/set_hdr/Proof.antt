@@ -1,7 +1,7 @@
 -- `words::tags::set_hdr` meets its contract: its sum is `headerOf`, and fits since the length is a multiple of 4 and the flags are at most 3.
 use native.Mathlib.Omega.{arith}
-use Rattle.words.proofs.Laws.Choice.{bit-small}
 use borrow.Author.Needs.{needs}
+use Rattle.words.proofs.Laws.Choice.{bit-small}
 use Rattle.words.proofs.tags.set_hdr.Statement.{statement}
 use Rattle.words.proofs.tags.set_hdr.Tie as tie
 

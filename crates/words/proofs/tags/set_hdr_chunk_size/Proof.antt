@@ -1,7 +1,7 @@
 -- `words::tags::set_hdr_chunk_size` meets its contract: it stores what `withLength` makes of the word that it reads.
+use borrow.Author.Needs.{needs}
 use Rattle.words.specs.Tags.{withLength}
 use Rattle.words.proofs.Laws.Tags.{changed-by}
-use borrow.Author.Needs.{needs}
 use Rattle.words.proofs.tags.set_hdr_chunk_size.Statement.{statement}
 use Rattle.words.proofs.tags.set_hdr_chunk_size.Tie as tie
 

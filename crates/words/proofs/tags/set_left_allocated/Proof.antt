@@ -1,7 +1,7 @@
 -- `words::tags::set_left_allocated` meets its contract: it stores what `leftUsed` makes of the word that it reads.
+use borrow.Author.Needs.{needs}
 use Rattle.words.specs.Tags.{leftUsed}
 use Rattle.words.proofs.Laws.Tags.{changed-by}
-use borrow.Author.Needs.{needs}
 use Rattle.words.proofs.tags.set_left_allocated.Statement.{statement}
 use Rattle.words.proofs.tags.set_left_allocated.Tie as tie
 

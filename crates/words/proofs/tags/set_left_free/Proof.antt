@@ -1,7 +1,7 @@
 -- `words::tags::set_left_free` meets its contract: it stores what `leftFreed` makes of the word that it reads.
+use borrow.Author.Needs.{needs}
 use Rattle.words.specs.Tags.{leftFreed}
 use Rattle.words.proofs.Laws.Tags.{changed-by}
-use borrow.Author.Needs.{needs}
 use Rattle.words.proofs.tags.set_left_free.Statement.{statement}
 use Rattle.words.proofs.tags.set_left_free.Tie as tie
 

@@ -1,7 +1,7 @@
 -- `words::tags::set_self_allocated` meets its contract: it stores what `asUsed` makes of the word that it reads.
+use borrow.Author.Needs.{needs}
 use Rattle.words.specs.Tags.{asUsed}
 use Rattle.words.proofs.Laws.Tags.{changed-by}
-use borrow.Author.Needs.{needs}
 use Rattle.words.proofs.tags.set_self_allocated.Statement.{statement}
 use Rattle.words.proofs.tags.set_self_allocated.Tie as tie
 

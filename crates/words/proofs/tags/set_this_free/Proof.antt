@@ -1,7 +1,7 @@
 -- `words::tags::set_this_free` meets its contract: it stores what `asFree` makes of the word that it reads.
+use borrow.Author.Needs.{needs}
 use Rattle.words.specs.Tags.{asFree}
 use Rattle.words.proofs.Laws.Tags.{changed-by}
-use borrow.Author.Needs.{needs}
 use Rattle.words.proofs.tags.set_this_free.Statement.{statement}
 use Rattle.words.proofs.tags.set_this_free.Tie as tie
 
