@@ -257,6 +257,11 @@ module _ {S : Type 0} {op : Ops S Figures} {most places : ℕ} (E : Edition op m
         let r = h .exact .only (t .0) x (let p = t .2 in omega arith) (t .3) in
         (r .0, r .1)
 
+    pub met-size : (z x : ℕ) → Mem x (searched m z) → lengthAt op s x ≡ sizeM m x
+    met-size z x i =
+        let t = in-turn (m .orders) (6 - startOf z) (startOf z) x i in
+        size-same L classOf cls6 s (m .orders) (m .cs) whole (t .0) (let p = t .2 in omega arith) x (t .3)
+
     -- a used chunk's length, read from its header
     pub used-size : (x : ℕ) → 6 ≤ x → 0 < usedAt (m .cs) (byteOf x) → lengthAt op s x ≡ usedAt (m .cs) (byteOf x)
     used-size x h6 p =

@@ -33,4 +33,5 @@ pub mod Editions
 pub mod Exactly
 pub mod Demands
 pub mod Runs
+pub mod Bounds
 pub mod Proved
