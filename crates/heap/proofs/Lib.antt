@@ -1,1 +1,4 @@
 pub mod Joins
+pub mod Marks
+pub mod Walks
+pub mod Tiling
