@@ -1,9 +1,10 @@
 -- Laws of the searches along the links (specs/Found.antt, and findWalk and searchAll of the rules), in the form that the code's tests have.
---     walk-end, walk-lost, walk-fits, walk-on    one turn of a walk, by where it stands
---     walk-bound                                 a walk that finds nothing has compared no more than the limit
+--     walk-end, walk-lost, walk-fits, walk-on    one turn of a walk, by where it stands; walk-start, how it begins
+--     compared-in, walk-bound                    no walk has compared more than the limit
 --     fit-out, fit-hit, fit-miss, fit-lost       one list of a search, by what the walk along it says
+--     search-bound                               no search has compared more than the limit
 --     first-fit-is                               the rules' first fit is the search that the code makes
-use mathlib.Core.Path.{_≡_, refl, sym}
+use mathlib.Core.Path.{_≡_, refl}
 use mathlib.Core.Bool.{Bool, true, false}
 use mathlib.Core.List.{List}
 use Prim.Native.Nat.{ℕ, zero, suc, _+_, _-_, _/_, _≤_, _<_}
@@ -19,7 +20,7 @@ use Rattle.words.specs.Sizes.{startOf}
 use Rattle.words.specs.Tags.{at, lengthOf}
 use Rattle.rules.specs.Making.{State}
 use Rattle.rules.specs.Rules.{firstFit}
-use Rattle.rules.specs.Search.{Found, nowhere, lost, findWalk, searchAll}
+use Rattle.rules.specs.Search.{Found, nowhere, lost, findWalk, orElse, searchAll}
 use Rattle.rules.specs.Search as rule
 use Rattle.heap.specs.declared.record.Record.{Record}
 use Rattle.heap.specs.Found.{walkIn}
@@ -27,7 +28,8 @@ use Rattle.heap.specs.Seen.{seen, base}
 
 -- the rest of a walk along list k, at the node x, after c were compared
 unfoldable pub walkFrom : List ℕ → List ℕ → ℕ → ℕ → ℕ → ℕ → ℕ → Found
-walkFrom nexts ws z limit k x c = findWalk (λ x. nodeLink narrow next nexts ws x) (λ x. lengthOf (at ws (x - 6))) z k (limit - c) x c
+walkFrom nexts ws z limit k x c =
+    findWalk (λ y. nodeLink narrow next nexts ws y) (λ y. lengthOf (at ws (y - 6))) z k (limit - c) x c
 
 -- one turn, by the fuel that is left
 module _ (nx size : ℕ → ℕ) (z k : ℕ) where
@@ -46,7 +48,8 @@ module _ (nx size : ℕ → ℕ) (z k : ℕ) where
   turn-fits zero x c n e h p q = absurd (omega arith)
   turn-fits (suc f) x c n e h p q = rw (add-one c, ne-eqb x k h, ← e, le-leb z n q)
 
-  turn-on : (f g x y c n : ℕ) → n ≡ size x → y ≡ nx x → (x ≡ k → ⊥) → g + 1 ≡ f → n < z → findWalk nx size z k f x c ≡ findWalk nx size z k g y (c + 1)
+  turn-on : (f g x y c n : ℕ) → n ≡ size x → y ≡ nx x → (x ≡ k → ⊥) → g + 1 ≡ f → n < z
+      → findWalk nx size z k f x c ≡ findWalk nx size z k g y (c + 1)
   unfolding findWalk
   turn-on zero g x y c n e d h p q = absurd (omega arith)
   turn-on (suc f) g x y c n e d h p q =
@@ -64,13 +67,12 @@ compared-pick true a b m p q = p
 compared-pick false a b m p q = q
 
 -- a walk compares at most as many as its fuel
-compared-walk : (nx size : ℕ → ℕ) (z k f x c : ℕ) → compared (findWalk nx size z k f x c) ≤ c + f
+compared-walk : (nx size : ℕ → ℕ) (z k f x c m : ℕ) → c + f ≤ m → compared (findWalk nx size z k f x c) ≤ m
 unfolding findWalk
-compared-walk nx size z k zero x c = compared-pick (eqb x k) _ _ (c + 0) (omega arith) (omega arith)
-compared-walk nx size z k (suc f) x c =
-    let h : compared (findWalk nx size z k f (nx x) (suc c)) ≤ suc c + f = compared-walk nx size z k f (nx x) (suc c) in
-    compared-pick (eqb x k) _ _ (c + suc f) (omega arith)
-    (compared-pick (leb z (size x)) _ _ (c + suc f) (omega arith) (omega arith))
+compared-walk nx size z k zero x c m h = compared-pick (eqb x k) _ _ m (omega arith) (omega arith)
+compared-walk nx size z k (suc f) x c m h =
+    compared-pick (eqb x k) _ _ m (omega arith)
+    (compared-pick (leb z (size x)) _ _ m (omega arith) (compared-walk nx size z k f (nx x) (suc c) m (omega arith)))
 
 -- A WALK ALONG LIST k for z bytes, of the code's own form
 module _ (nexts ws : List ℕ) (z limit k : ℕ) where
@@ -90,20 +92,22 @@ module _ (nexts ws : List ℕ) (z limit k : ℕ) where
   walk-lost x c h p = turn-lost _ _ z k (limit - c) x c h (omega arith)
 
   -- a chunk that is long enough is found
-  pub walk-fits : (x c i n : ℕ) → i ≡ x - 6 → n ≡ lengthOf (at ws i) → (x ≡ k → ⊥) → c < limit → z ≤ n → walkFrom nexts ws z limit k x c ≡ rule.at x (c + 1)
+  pub walk-fits : (x c i n : ℕ) → i ≡ x - 6 → n ≡ lengthOf (at ws i) → (x ≡ k → ⊥) → c < limit → z ≤ n
+      → walkFrom nexts ws z limit k x c ≡ rule.at x (c + 1)
   unfolding walkFrom
   walk-fits x c i n ei en h p q = turn-fits _ _ z k (limit - c) x c n (rw ei at en) h (omega arith) q
 
   -- past one that is not the walk goes on
-  pub walk-on : (x y c i n : ℕ) → i ≡ x - 6 → n ≡ lengthOf (at ws i) → y ≡ nodeLink narrow next nexts ws x → (x ≡ k → ⊥) → c < limit → n < z
-      → walkFrom nexts ws z limit k x c ≡ walkFrom nexts ws z limit k y (c + 1)
+  pub walk-on : (x y c i n : ℕ) → i ≡ x - 6 → n ≡ lengthOf (at ws i) → y ≡ nodeLink narrow next nexts ws x
+      → (x ≡ k → ⊥) → c < limit → n < z → walkFrom nexts ws z limit k x c ≡ walkFrom nexts ws z limit k y (c + 1)
   unfolding walkFrom
-  walk-on x y c i n ei en ey h p q = turn-on _ _ z k (limit - c) (limit - (c + 1)) x y c n (rw ei at en) ey h (omega arith) q
+  walk-on x y c i n ei en ey h p q =
+      turn-on _ _ z k (limit - c) (limit - (c + 1)) x y c n (rw ei at en) ey h (omega arith) q
 
   -- no walk compares more than the limit
   pub compared-in : (c : ℕ) → c ≤ limit → compared (walkIn nexts ws z limit k c) ≤ limit
   unfolding walkIn
-  compared-in c p = let h = compared-walk (λ x. nodeLink narrow next nexts ws x) (λ x. lengthOf (at ws (x - 6))) z k (limit - c) (nodeLink narrow next nexts ws k) c in omega arith
+  compared-in c p = compared-walk _ _ z k (limit - c) (nodeLink narrow next nexts ws k) c limit (omega arith)
 
   pub walk-bound : (c d : ℕ) → c ≤ limit → walkIn nexts ws z limit k c ≡ nowhere d → d ≤ limit
   walk-bound c d p e = rw e at (compared-in c p)
@@ -131,6 +135,25 @@ module _ (f : ℕ → ℕ → Found) where
   fit-miss (suc n) m k c d p e =
       let o : m ≡ n = omega arith in
       rw (add-one k, e, o)
+
+-- if no walk compares more than the limit, no search does
+compared-else : (limit : ℕ) (q : Found) (g : ℕ → Found) → compared q ≤ limit → ((d : ℕ) → d ≤ limit → compared (g d) ≤ limit)
+    → compared (orElse q g) ≤ limit
+compared-else limit (rule.at x d) g p h = p
+compared-else limit (nowhere d) g p h = h d p
+compared-else limit lost g p h = p
+
+compared-all : (f : ℕ → ℕ → Found) (limit : ℕ) → ((k c : ℕ) → c ≤ limit → compared (f k c) ≤ limit)
+    → (n k c : ℕ) → c ≤ limit → compared (searchAll f n k c) ≤ limit
+unfolding searchAll
+compared-all f limit h zero k c p = p
+compared-all f limit h (suc n) k c p =
+    compared-else limit (f k c) (λ d. searchAll f n (suc k) d) (h k c p) (λ d q. compared-all f limit h n (suc k) d q)
+
+pub search-bound : (nexts ws : List ℕ) (z limit n k : ℕ) (q : Found) → q ≡ searchAll (walkIn nexts ws z limit) n k 0
+    → compared q ≤ limit
+search-bound nexts ws z limit n k q e =
+    rw e (compared-all (walkIn nexts ws z limit) limit (λ j c p. compared-in nexts ws z limit j c p) n k 0 (omega arith))
 
 -- the rules' first fit on a record and its words
 pub first-fit-is : (sound : State → Bool) (r : Record) (ws : List ℕ) (z : ℕ)

@@ -11,7 +11,9 @@ use Rattle.heap.proofs.search.walk_list.Statement.{statement}
 use Rattle.heap.proofs.search.walk_list.Tie as tie
 
 abbrev Inv-loop : tie.InvT-loop
-Inv-loop next heap class size limit compared k₀ l₀ k l = (walkIn (numbers next) heap size limit class compared ≡ walkFrom (numbers next) heap size limit class (l .0) k) × (k ≤ limit)
+Inv-loop next heap class size limit compared k₀ l₀ k l =
+    (walkIn (numbers next) heap size limit class compared ≡ walkFrom (numbers next) heap size limit class (l .0) k)
+    × (k ≤ limit)
 
 abbrev μ-loop : tie.MeasureT-loop
 μ-loop next heap class size limit compared k₀ l₀ k l = limit - k
@@ -35,7 +37,11 @@ get-hdr-chunk-size-requires : tie.Need-get-hdr-chunk-size-requires Inv-loop μ-l
 get-hdr-chunk-size-requires c κs = search needs
 
 returns-2 : tie.Need-returns-2 Inv-loop μ-loop
-returns-2 c = sym (c .before .before .before .before .before .before .loop .inv .0 ∙ walk-fits _ _ _ _ _ _ _ _ _ (c .before .before .link-to-hdr .ensures) (c .before .get-hdr-chunk-size .ensures) (c .before .before .before .before .if1 .taken) (c .before .before .before .if2 .left) (c .if3 .taken))
+returns-2 c =
+    sym
+    (c .before .before .before .before .before .before .loop .inv .0 ∙ walk-fits _ _ _ _ _ _ _ _ _
+    (c .before .before .link-to-hdr .ensures) (c .before .get-hdr-chunk-size .ensures)
+    (c .before .before .before .before .if1 .taken) (c .before .before .before .if2 .left) (c .if3 .taken))
 
 next-of-requires-2 : tie.Need-next-of-requires-2 Inv-loop μ-loop
 next-of-requires-2 c κs = search needs
@@ -44,7 +50,12 @@ loop-less : tie.Need-loop-less Inv-loop μ-loop
 loop-less c = omega arith
 
 loop-again : tie.Need-loop-again Inv-loop μ-loop
-loop-again c = (c .before .before .before .before .before .before .before .loop .inv .0 ∙ walk-on _ _ _ _ _ _ _ _ _ _ (c .before .before .before .link-to-hdr .ensures) (c .before .before .get-hdr-chunk-size .ensures) (c .next-of2 .ensures) (c .before .before .before .before .before .if1 .taken) (c .before .before .before .before .if2 .left) (c .before .if3 .left), omega arith)
+loop-again c = (
+  c .before .before .before .before .before .before .before .loop .inv .0 ∙ walk-on _ _ _ _ _ _ _ _ _ _
+      (c .before .before .before .link-to-hdr .ensures) (c .before .before .get-hdr-chunk-size .ensures) (c .next-of2 .ensures)
+      (c .before .before .before .before .before .if1 .taken) (c .before .before .before .before .if2 .left) (c .before .if3 .left),
+  omega arith,
+)
 
 returns-3 : tie.Need-returns-3 Inv-loop μ-loop
 returns-3 c = sym (c .before .before .loop .inv .0 ∙ walk-end _ _ _ _ _ _ _ (c .if1 .left))
