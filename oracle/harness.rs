@@ -73,7 +73,10 @@ impl Harness {
     /// The next number to fill memory with. They are below 256, so that they look like headers,
     /// footers and links.
     fn number(&mut self) -> u32 {
-        self.seed = self.seed.wrapping_mul(1_664_525).wrapping_add(1_013_904_223);
+        self.seed = self
+            .seed
+            .wrapping_mul(1_664_525)
+            .wrapping_add(1_013_904_223);
         self.seed >> 24
     }
 
@@ -90,47 +93,58 @@ impl Harness {
         }
     }
 
-    /// The answer to a request. Tests come in the order of the rules.
+    /// The answer to a request.
     fn answer(&mut self, request: Request) -> Answer {
         match request {
-            Request::Make(words) => {
-                if !can_make(words) || words > self.options.words {
-                    return Answer(6, 0, 0);
-                }
-                self.check_behind();
-                self.oracle.make(words);
-                self.live.clear();
-                self.behind = (words..self.options.words).map(|w| self.oracle.word(w)).collect();
-                Answer(0, 0, self.noted())
-            }
-            Request::HandOut(size) => {
-                if size == 0 && self.oracle.words() == 0 {
-                    return Answer(1, 0, 0);
-                }
-                if size > LARGEST_SIZE && !self.options.past_the_limit {
-                    return Answer(2, 0, 0);
-                }
-                if self.oracle.words() == 0 {
-                    return Answer(5, 0, 0);
-                }
-                match self.oracle.hand_out(size) {
-                    Some(offset) => self.handed_out(offset),
-                    None if size == 0 => Answer(1, 0, self.noted()),
-                    None => Answer(3, 0, self.noted()),
-                }
-            }
-            Request::TakeBack(offset) => {
-                if self.oracle.words() == 0 {
-                    return Answer(5, 0, 0);
-                }
-                if !self.live.remove(&offset) {
-                    return Answer(4, 0, 0);
-                }
-                // Safety: the payload was live, and `main` stops where a chunk is below 16 bytes.
-                unsafe { self.oracle.take_back(offset) }
-                Answer(0, 0, self.noted())
-            }
+            Request::Make(words) => self.make(words),
+            Request::HandOut(size) => self.hand_out(size),
+            Request::TakeBack(offset) => self.take_back(offset),
         }
+    }
+
+    /// Make a heap. The rules' test 6 is the harness's.
+    fn make(&mut self, words: u32) -> Answer {
+        if !can_make(words) || words > self.options.words {
+            return Answer(6, 0, 0);
+        }
+        self.check_behind();
+        self.oracle.make(words);
+        self.live.clear();
+        self.behind = (words..self.options.words)
+            .map(|w| self.oracle.word(w))
+            .collect();
+        Answer(0, 0, self.noted())
+    }
+
+    /// Hand out. The rules' tests 2 and 5 are the harness's; 1 and 3 are the oracle's null.
+    fn hand_out(&mut self, size: u32) -> Answer {
+        let made = self.oracle.words() > 0;
+        if size == 0 && !made {
+            return Answer(1, 0, 0);
+        }
+        if size > LARGEST_SIZE && !self.options.past_the_limit {
+            return Answer(2, 0, 0);
+        }
+        if !made {
+            return Answer(5, 0, 0);
+        }
+        match self.oracle.hand_out(size) {
+            Some(offset) => self.handed_out(offset),
+            None => Answer(if size == 0 { 1 } else { 3 }, 0, self.noted()),
+        }
+    }
+
+    /// Take back. The rules' tests 5 and 4 are the harness's.
+    fn take_back(&mut self, offset: u32) -> Answer {
+        if self.oracle.words() == 0 {
+            return Answer(5, 0, 0);
+        }
+        if !self.live.remove(&offset) {
+            return Answer(4, 0, 0);
+        }
+        // Safety: the payload was live, and `main` stops where a chunk is below 16 bytes.
+        unsafe { self.oracle.take_back(offset) }
+        Answer(0, 0, self.noted())
     }
 
     /// Remember a payload that was handed out, and let its task write to it.
@@ -139,7 +153,10 @@ impl Harness {
         let (length, _) = self.oracle.header(offset - 4);
         self.broken = length < 16;
         if !self.broken {
-            assert!(self.live.insert(offset), "offset {offset} was handed out twice");
+            assert!(
+                self.live.insert(offset),
+                "offset {offset} was handed out twice"
+            );
             self.fill(offset / 4, (offset - 4 + length) / 4);
         }
         Answer(0, offset, compared)
@@ -170,14 +187,19 @@ impl Harness {
     /// Stop if a word behind the heap's guard is not what it was when the heap was made.
     fn check_behind(&self) {
         for (index, kept) in (self.oracle.words()..).zip(&self.behind) {
-            assert!(self.oracle.word(index) == *kept, "word {index}, behind the guard, has changed");
+            assert!(
+                self.oracle.word(index) == *kept,
+                "word {index}, behind the guard, has changed"
+            );
         }
     }
 
     /// The whole state on one line.
     fn dump(&self) -> String {
         let oracle = &self.oracle;
-        let cached = oracle.cached().map_or("-".to_string(), |offset| format!("@{offset}"));
+        let cached = oracle
+            .cached()
+            .map_or("-".to_string(), |offset| format!("@{offset}"));
         let heads: Vec<String> = (0..6)
             .map(|class| oracle.sentinel_links(class))
             .map(|(prev, next)| format!("{prev}/{next}"))
@@ -209,40 +231,54 @@ impl Harness {
             chunks.push(next.to_string());
             next = self.oracle.links(offset / 4 + 1).1;
         }
-        match next {
-            Name::Sentinel(end) if end != class => "?".to_string(),
-            _ if chunks.is_empty() => "-".to_string(),
-            _ => chunks.join(">"),
+        if next != Name::Sentinel(class) {
+            "?".to_string()
+        } else if chunks.is_empty() {
+            "-".to_string()
+        } else {
+            chunks.join(">")
         }
     }
 
     /// Every word of the heap, equal neighbours once with their count.
     fn memory(&self) -> String {
-        let mut shown: Vec<(String, u32)> = Vec::new();
-        for index in 0..self.oracle.words() {
-            let word = if self.is_link[index as usize] {
-                let (prev, next) = self.oracle.links(index);
+        let value = |index: u32| (self.is_link[index as usize], self.oracle.word(index));
+        let mut words = Vec::new();
+        let mut index = 0;
+        while index < self.oracle.words() {
+            let first = value(index);
+            let count = (index..self.oracle.words())
+                .take_while(|&next| value(next) == first)
+                .count();
+            let (prev, next) = self.oracle.links(index);
+            let word = if first.0 {
                 format!("{prev}/{next}")
             } else {
-                self.oracle.word(index).to_string()
+                first.1.to_string()
             };
-            match shown.last_mut() {
-                Some((last, count)) if *last == word => *count += 1,
-                _ => shown.push((word, 1)),
-            }
+            words.push(if count == 1 {
+                word
+            } else {
+                format!("{word}*{count}")
+            });
+            index += count as u32;
         }
-        let words: Vec<String> = shown
-            .into_iter()
-            .map(|(word, count)| if count == 1 { word } else { format!("{word}*{count}") })
-            .collect();
-        if words.is_empty() { "-".to_string() } else { words.join(",") }
+        if words.is_empty() {
+            "-".to_string()
+        } else {
+            words.join(",")
+        }
     }
 }
 
 /// The request of a line, line feed included, or nothing if it is no frame.
 fn request_of(line: &[u8]) -> Option<Request> {
     let digits = line.strip_suffix(b"\n")?;
-    if digits.len() != 10 || !digits.iter().all(|d| matches!(d, b'0'..=b'9' | b'A'..=b'F')) {
+    if digits.len() != 10
+        || !digits
+            .iter()
+            .all(|d| matches!(d, b'0'..=b'9' | b'A'..=b'F'))
+    {
         return None;
     }
     let number = u32::from_str_radix(std::str::from_utf8(&digits[2..]).ok()?, 16).ok()?;
@@ -256,17 +292,29 @@ fn request_of(line: &[u8]) -> Option<Request> {
 
 /// Say what the command line should be, and stop.
 fn usage() -> ! {
-    eprintln!("usage: harness [--dump] [--words N] [--fill SEED] [--marks STACKLETS] [--past-the-limit] < frames");
+    eprintln!(
+        "usage: harness [--dump] [--words N] [--fill SEED] [--marks STACKLETS] \
+         [--past-the-limit] < frames"
+    );
     exit(2)
 }
 
 /// The options of the command line.
 fn options() -> Options {
-    let mut options =
-        Options { dump: false, words: 16_383, fill: None, marks: None, past_the_limit: false };
+    let mut options = Options {
+        dump: false,
+        words: 16_383,
+        fill: None,
+        marks: None,
+        past_the_limit: false,
+    };
     let mut args = std::env::args().skip(1);
     while let Some(arg) = args.next() {
-        let mut number = || args.next().and_then(|n| n.parse().ok()).unwrap_or_else(|| usage());
+        let mut number = || {
+            args.next()
+                .and_then(|n| n.parse().ok())
+                .unwrap_or_else(|| usage())
+        };
         match arg.as_str() {
             "--dump" => options.dump = true,
             "--words" => options.words = number(),
@@ -305,7 +353,7 @@ fn main() -> io::Result<()> {
         }
         if harness.broken {
             output.flush()?;
-            eprintln!("harness: the chunk handed out is shorter than 16 bytes, so this is no heap any more");
+            eprintln!("harness: the chunk handed out is shorter than 16 bytes, no heap any more");
             exit(3);
         }
         // Whoever waits for an answer before the next line gets it.

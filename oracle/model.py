@@ -142,8 +142,8 @@ class Heap:
     def __init__(self, memory, record=None):
         """A heap of any words and record, to be judged; or, without a record, memory with no heap made."""
         self.memory = memory
-        self.record = record or Record()
-        self.lent = len(memory) if record else 0
+        self.record = Record() if record is None else record
+        self.lent = 0 if record is None else len(memory)
         self.link_words = set()
 
     # fields
@@ -445,8 +445,8 @@ class Heap:
         for w in self.link_words:
             if w < self.lent:
                 shown[w] = f"{name_of(shown[w] % 65536)}/{name_of(shown[w] // 65536)}"
-        runs = ((word, sum(1 for _ in run)) for word, run in groupby(shown))
-        return ",".join(f"{word}*{count}" if count > 1 else str(word) for word, count in runs) or "-"
+        runs = [(word, len(list(run))) for word, run in groupby(shown)]
+        return ",".join([f"{word}*{count}" if count > 1 else str(word) for word, count in runs]) or "-"
 
 
 # Trace frames

@@ -10,7 +10,7 @@
 //! than one thread: `lib.rs` hands out the only door to it.
 
 use super::{Sentinel, CACHED, CUR_ALLOC_SIZE, MAX_ALLOC_SIZE, SENTINELS};
-use super::{HIGH_WATER_MARK, HIGH_WATER_MARK_JUST_UPDATED, __MEM_CHUNK_LINK_OFFSET};
+use super::{__MEM_CHUNK_LINK_OFFSET, HIGH_WATER_MARK, HIGH_WATER_MARK_JUST_UPDATED};
 use core::sync::atomic::Ordering;
 
 /// The longest heap that 16-bit links reach when the sentinels take the first twelve.
@@ -34,7 +34,10 @@ static mut COMPARED: u32 = 0;
 /// The pointer to an address.
 pub(crate) fn to_ptr<T>(addr: u32) -> *mut T {
     let offset = addr.wrapping_sub(__MEM_CHUNK_LINK_OFFSET);
-    assert!(offset < SENTINEL_BYTES + 4 * MOST_WORDS, "{addr:#x} is no address of RAM");
+    assert!(
+        offset < SENTINEL_BYTES + 4 * MOST_WORDS,
+        "{addr:#x} is no address of RAM"
+    );
     if offset < SENTINEL_BYTES {
         (&raw mut SENTINELS).wrapping_byte_add(offset as usize) as *mut T
     } else {
@@ -49,7 +52,10 @@ pub(crate) fn to_addr<T>(ptr: *mut T) -> u32 {
         return START + in_words as u32;
     }
     let in_sentinels = (ptr as usize).wrapping_sub(&raw const SENTINELS as usize);
-    assert!(in_sentinels < SENTINEL_BYTES as usize, "{ptr:?} points to no RAM");
+    assert!(
+        in_sentinels < SENTINEL_BYTES as usize,
+        "{ptr:?} points to no RAM"
+    );
     __MEM_CHUNK_LINK_OFFSET + in_sentinels as u32
 }
 
