@@ -2,14 +2,15 @@
 //! lines of the rules. docs/ORACLE.md says which answers are the oracle's and which the harness's,
 //! and describes the dump.
 //!
-//!     harness [--dump] [--words N] [--fill SEED] [--marks STACKLETS] [--past-the-limit] < frames
+//!     harness [--dump] [--words N] [--fill SEED | --unguarded] [--marks STACKLETS] < frames
 //!
 //! --dump            after every answer line, the whole state on one line
 //! --words N         the memory has N words (16383 if not said, 65527 at most)
 //! --fill SEED       memory starts with numbers instead of zeros, and every payload is overwritten
 //!                   with numbers when it is handed out, as its task would
 //! --marks STACKLETS after every handout that is done, the adjusted mark for so many stacklets
-//! --past-the-limit  sizes above 4294967284 go to the oracle too
+//! --unguarded       sizes above 4294967284, and frees of the chunk that is cached already, go to
+//!                   the oracle too; where that leaves no heap, the harness stops with status 3
 
 use oracle::{can_make, Name, Oracle};
 use std::collections::HashSet;
@@ -35,7 +36,7 @@ struct Options {
     words: u32,
     fill: Option<u32>,
     marks: Option<u32>,
-    past_the_limit: bool,
+    unguarded: bool,
 }
 
 /// The oracle, and what the harness itself has to know to answer as the rules do.
@@ -50,8 +51,8 @@ struct Harness {
     behind: Vec<u32>,
     /// The last number given by `number`.
     seed: u32,
-    /// Whether the oracle handed out a chunk that is too short to be one.
-    broken: bool,
+    /// Why this is no heap any more, if that is so.
+    broken: Option<String>,
 }
 
 impl Harness {
@@ -63,7 +64,7 @@ impl Harness {
             is_link: vec![false; options.words as usize],
             behind: Vec::new(),
             seed: options.fill.unwrap_or(0),
-            broken: false,
+            broken: None,
             options,
         };
         harness.fill(0, harness.options.words);
@@ -122,7 +123,7 @@ impl Harness {
         if size == 0 && !made {
             return Answer(1, 0, 0);
         }
-        if size > LARGEST_SIZE && !self.options.past_the_limit {
+        if size > LARGEST_SIZE && !self.options.unguarded {
             return Answer(2, 0, 0);
         }
         if !made {
@@ -139,10 +140,16 @@ impl Harness {
         if self.oracle.words() == 0 {
             return Answer(5, 0, 0);
         }
-        if !self.live.remove(&offset) {
+        let cached = self.oracle.cached();
+        let again = self.options.unguarded && cached.is_some_and(|chunk| chunk + 4 == offset);
+        if !self.live.remove(&offset) && !again {
             return Answer(4, 0, 0);
         }
-        // Safety: the payload was live, and `main` stops where a chunk is below 16 bytes.
+        for chunk in cached.into_iter().chain([offset - 4]) {
+            let (_, used) = self.oracle.header(chunk);
+            assert!(used, "the chunk at {chunk} is listed already");
+        }
+        // Safety: both chunks are used, and `main` stops at the first that is too short.
         unsafe { self.oracle.take_back(offset) }
         Answer(0, 0, self.noted())
     }
@@ -151,12 +158,11 @@ impl Harness {
     fn handed_out(&mut self, offset: u32) -> Answer {
         let compared = self.noted();
         let (length, _) = self.oracle.header(offset - 4);
-        self.broken = length < 16;
-        if !self.broken {
-            assert!(
-                self.live.insert(offset),
-                "offset {offset} was handed out twice"
-            );
+        if length < 16 {
+            self.broken = Some(format!("offset {offset} is in a chunk of {length} bytes"));
+        } else if !self.live.insert(offset) {
+            self.broken = Some(format!("offset {offset} was handed out twice"));
+        } else {
             self.fill(offset / 4, (offset - 4 + length) / 4);
         }
         Answer(0, offset, compared)
@@ -293,8 +299,8 @@ fn request_of(line: &[u8]) -> Option<Request> {
 /// Say what the command line should be, and stop.
 fn usage() -> ! {
     eprintln!(
-        "usage: harness [--dump] [--words N] [--fill SEED] [--marks STACKLETS] \
-         [--past-the-limit] < frames"
+        "usage: harness [--dump] [--words N] [--fill SEED | --unguarded] [--marks STACKLETS] \
+         < frames"
     );
     exit(2)
 }
@@ -306,7 +312,7 @@ fn options() -> Options {
         words: 16_383,
         fill: None,
         marks: None,
-        past_the_limit: false,
+        unguarded: false,
     };
     let mut args = std::env::args().skip(1);
     while let Some(arg) = args.next() {
@@ -320,11 +326,13 @@ fn options() -> Options {
             "--words" => options.words = number(),
             "--fill" => options.fill = Some(number()),
             "--marks" => options.marks = Some(number()),
-            "--past-the-limit" => options.past_the_limit = true,
+            "--unguarded" => options.unguarded = true,
             _ => usage(),
         }
     }
-    if options.words > oracle::MOST_WORDS {
+    // A task's numbers in a chunk that is listed too could send a search round for ever.
+    let both = options.unguarded && options.fill.is_some();
+    if both || options.words > oracle::MOST_WORDS {
         usage()
     }
     options
@@ -351,9 +359,9 @@ fn main() -> io::Result<()> {
         if harness.options.dump {
             writeln!(output, "{}", harness.dump())?;
         }
-        if harness.broken {
+        if let Some(why) = &harness.broken {
             output.flush()?;
-            eprintln!("harness: the chunk handed out is shorter than 16 bytes, no heap any more");
+            eprintln!("harness: this is no heap any more: {why}");
             exit(3);
         }
         // Whoever waits for an answer before the next line gets it.
