@@ -2,6 +2,7 @@
 --     Lawful, narrow-lawful, wide-lawful     what a width has to keep, and that both widths keep it
 --     link-setLink-same, -other, -side, -even, -apart     links in the words after one is stored
 --     length-setLink, at-setLink, link-set                what else a store keeps
+--     setLink-by                                          reading a link word and storing what is put together sets the link
 --     node-store-same, -other, -side, node-set            the same of nodes, in the sentinels and the words
 --     length-setSentinel, length-setChunk, at-setChunk
 use mathlib.Core.Path.{_≡_, refl, ap, _∙_}
@@ -75,6 +76,11 @@ module _ (W : Width) (a : Side) (ws : List ℕ) (w l : ℕ) where
   -- another header's link of that side
   pub link-setLink-other : (u : ℕ) → u ≢ w → linkAt W a (setLinkAt W a ws w l) u ≡ linkAt W a ws u
   link-setLink-other u h = link-setLink-apart a u (omega arith)
+
+-- the link word is read, and what the width puts together of it and the link is stored: the link is set
+pub setLink-by : (W : Width) (a : Side) (ws vs : List ℕ) (w l i x : ℕ) → i ≡ w + W .place a → x ≡ at ws i → vs ≡ set ws i (W .put a x l) → vs ≡ setLinkAt W a ws w l
+unfolding setLinkAt
+setLink-by W a ws vs w l i x e f g = rw (g, f, e)
 
 -- a store into any word but the link's keeps the link
 pub link-set : (W : Width) (a : Side) (ws : List ℕ) (w i x : ℕ) → w + W .place a ≢ i → linkAt W a (set ws i x) w ≡ linkAt W a ws w
