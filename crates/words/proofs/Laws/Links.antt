@@ -30,11 +30,12 @@ pub record Lawful (W : Width) : Type 0 where
   pub get-put : (a : Side) (x l : ℕ) → l < W .limit → W .get a (W .put a x l) ≡ l
   pub get-put-other : (a : Side) (x l : ℕ) → l < W .limit → W .place a ≡ W .place (other a) → W .get (other a) (W .put a x l) ≡ W .get (other a) x
 
--- the half that was stored is read, and the other half is kept
+-- the half that was stored is read
 half-same : (a : Side) (x l : ℕ) → l < 65536 → half a (withHalf a x l) ≡ l
 half-same prev x l h = omega arith
 half-same next x l h = omega arith
 
+-- and the other half is kept
 half-other : (a : Side) (x l : ℕ) → l < 65536 → half (other a) (withHalf a x l) ≡ half (other a) x
 half-other prev x l h = omega arith
 half-other next x l h = omega arith
@@ -43,11 +44,12 @@ half-other next x l h = omega arith
 pub narrow-lawful : Lawful narrow
 narrow-lawful = record { near = λ a. (omega arith, omega arith); get-put = half-same; get-put-other = λ a x l h e. half-other a x l h }
 
--- 32-bit links stand in the two words after the header, each in its own
+-- 32-bit links stand in the two words after the header
 two-words : (a : Side) → (1 ≤ wordAfter a) × (wordAfter a ≤ 2)
 two-words prev = (omega arith, omega arith)
 two-words next = (omega arith, omega arith)
 
+-- each in its own
 words-differ : (a : Side) → wordAfter a ≡ wordAfter (other a) → ⊥
 words-differ prev e = omega arith
 words-differ next e = omega arith
