@@ -31,6 +31,7 @@ pub mod Base
 pub mod Decide
 pub mod Editions
 pub mod Exactly
+pub mod Cases
 pub mod Demands
 pub mod Runs
 pub mod Bounds
