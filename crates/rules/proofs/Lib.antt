@@ -36,3 +36,4 @@ pub mod Demands
 pub mod Runs
 pub mod Bounds
 pub mod Proved
+pub mod Examples
