@@ -45,22 +45,33 @@ module _ (next prev : ℕ → ℕ) (ok : ℕ → Bool) (c : ℕ) where
           go zero e s = absurd (omega arith)
           go (suc f) e s = (f, omega arith, s)
 
-      pub not-back : (prev (next from) ≡ from → ⊥) → whole ≡ Cut
-      unfolding pick
-      not-back b = step .2 ∙ simp (ne-eqb (prev (next from)) from b)
+      -- the ways a turn can go, by the links that the code reads
+      module _ (k b : ℕ) (q : k ≡ next from) (r : b ≡ prev k) where
+        back : prev (next from) ≡ b
+        back = ap prev (sym q) ∙ sym r
 
-      pub at-end : prev (next from) ≡ from → next from ≡ c → whole ≡ Long n
-      unfolding pick
-      at-end b e = step .2 ∙ simp (eq-eqb (prev (next from)) from b, eq-eqb (next from) c e)
+        pub not-back : (b ≡ from → ⊥) → whole ≡ Cut
+        unfolding pick
+        not-back e = step .2 ∙ simp (ne-eqb (prev (next from)) from (λ z. e (sym back ∙ z)))
 
-      pub not-ok : prev (next from) ≡ from → (next from ≡ c → ⊥) → ok (next from) ≡ false → whole ≡ Cut
-      unfolding pick
-      not-ok b e o = step .2 ∙ simp (eq-eqb (prev (next from)) from b, ne-eqb (next from) c e, o)
+        pub at-end : b ≡ from → k ≡ c → whole ≡ Long n
+        unfolding pick
+        at-end e z = step .2 ∙ simp (eq-eqb (prev (next from)) from (back ∙ e), eq-eqb (next from) c (sym q ∙ z))
 
-      pub goes-on : (k : ℕ) → k ≡ next from → prev (next from) ≡ from → (next from ≡ c → ⊥) → ok (next from) ≡ true → Following next prev ok c whole most k (n + 1)
-      unfolding pick
-      goes-on k q b e o =
-          record { fuel = step .0; left = step .1; same = step .2 ∙ simp (eq-eqb (prev (next from)) from b, ne-eqb (next from) c e, o, q) }
+        module _ (e : b ≡ from) (z : k ≡ c → ⊥) where
+          pub not-ok : ok k ≡ false → whole ≡ Cut
+          unfolding pick
+          not-ok o = step .2 ∙ simp (eq-eqb (prev (next from)) from (back ∙ e), ne-eqb (next from) c (λ y. z (q ∙ y)), ap ok (sym q) ∙ o)
+
+          pub goes-on : ok k ≡ true → Following next prev ok c whole most k (n + 1)
+          unfolding pick
+          goes-on o =
+              record {
+                fuel = step .0;
+                left = step .1;
+                same = step .2 ∙ simp (eq-eqb (prev (next from)) from (back ∙ e), ne-eqb (next from) c (λ y. z (q ∙ y)), ap ok (sym q) ∙ o)
+                    (ap (λ (x : ℕ). followFrom next prev ok c (step .0) x (n + 1)) (sym q));
+              }
 
   -- WHAT IS FOLLOWED to its end is a chain of links that pass
   pub record Passing (from n m : ℕ) : Type 0 where

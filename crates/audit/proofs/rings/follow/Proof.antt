@@ -1,60 +1,59 @@
+-- `audit::rings::follow` meets its contract. Invariant: what is left to follow, with n passed, is the whole list. Measure: the turns left.
+use Prim.Native.Nat.{_+_, _-_}
+use mathlib.Core.Path.{refl, sym, _∙_}
+use native.Mathlib.Omega.{arith}
+use lib.ListN.{length}
+use denote.Ref.{now}
+use borrow.Author.Needs.{needs}
+use borrow.Author.Tests.{not-true, not-false}
+use Rattle.audit.specs.Rings.{nextOf, prevOf, insideᵇ, chained}
+use Rattle.audit.proofs.rings.Chases.{Following, not-back, at-end, not-ok, goes-on, ran-out}
 use Rattle.audit.proofs.rings.follow.Statement.{statement}
 use Rattle.audit.proofs.rings.follow.Tie as tie
-use Rattle.audit.proofs.rings.follow.Reads as reads
-use Rattle.audit.proofs.rings.follow.Lts as lts
-use Rattle.audit.proofs.rings.inside.Reads as inside-reads
-use Rattle.words.proofs.next_of.Reads as next-of-reads
-use Rattle.words.proofs.prev_of.Reads as prev-of-reads
 
 abbrev Inv-loop : tie.InvT-loop
-Inv-loop prev next heap class from₀ n₀ from n = ?
+Inv-loop prev next heap class from₀ n₀ from n = Following (nextOf next heap) (prevOf prev heap) (insideᵇ heap) class (chained prev next heap class) (length heap + 1) (from .0) n
 
 abbrev μ-loop : tie.MeasureT-loop
-μ-loop prev next heap class from₀ n₀ from n = ?
+μ-loop prev next heap class from₀ n₀ from n = length heap + 1 - n
 
--- src/rings.rt:36:5
 loop-holds : tie.Need-loop-holds Inv-loop μ-loop
-loop-holds c = ?
+unfolding chained
+loop-holds c = record { fuel = length (now (c .before .args .heap)) + 1; left = omega arith; same = refl }
 
--- src/rings.rt:37:13
 next-of-requires : tie.Need-next-of-requires Inv-loop μ-loop
-next-of-requires c κs = ?
+next-of-requires c κs = search needs
 
--- src/rings.rt:38:13
 prev-of-requires : tie.Need-prev-of-requires Inv-loop μ-loop
-prev-of-requires c κs = ?
+prev-of-requires c κs = search needs
 
--- src/rings.rt:40:13
 returns : tie.Need-returns Inv-loop μ-loop
-returns c = ?
+unfolding nextOf prevOf
+returns c = sym (not-back _ _ _ _ _ _ _ _ (c .before .before .before .before .before .before .loop .inv) (omega arith) _ _ (c .before .before .before .before .next-of .ensures) (c .before .before .before .prev-of .ensures) (c .if1 .taken))
 
--- src/rings.rt:43:13
 returns-2 : tie.Need-returns-2 Inv-loop μ-loop
-returns-2 c = ?
+unfolding nextOf prevOf
+returns-2 c = sym (at-end _ _ _ _ _ _ _ _ (c .before .before .before .before .before .before .before .before .loop .inv) (omega arith) _ _ (c .before .before .before .before .before .before .next-of .ensures) (c .before .before .before .before .before .prev-of .ensures) (c .before .before .if1 .left) (c .if2 .taken))
 
--- src/rings.rt:45:13
 inside-requires : tie.Need-inside-requires Inv-loop μ-loop
-inside-requires c κs = ?
+inside-requires c κs = search needs
 
--- src/rings.rt:47:13
 returns-3 : tie.Need-returns-3 Inv-loop μ-loop
-returns-3 c = ?
+unfolding nextOf prevOf
+returns-3 c = sym (not-ok _ _ _ _ _ _ _ _ (c .before .before .before .before .before .before .before .before .before .before .loop .inv) (omega arith) _ _ (c .before .before .before .before .before .before .before .before .next-of .ensures) (c .before .before .before .before .before .before .before .prev-of .ensures) (c .before .before .before .before .if1 .left) (c .before .before .if2 .left) (sym (c .before .inside .ensures) ∙ not-true _ (c .if3 .taken)))
 
--- src/rings.rt:50:13
 add-n : tie.Need-add-n Inv-loop μ-loop
-add-n c = ?
+add-n c = omega arith
 
--- src/rings.rt:36:5
 loop-less : tie.Need-loop-less Inv-loop μ-loop
-loop-less c = ?
+loop-less c = omega arith
 
--- src/rings.rt:36:5
 loop-again : tie.Need-loop-again Inv-loop μ-loop
-loop-again c = ?
+unfolding nextOf prevOf
+loop-again c = goes-on _ _ _ _ _ _ _ _ (c .before .before .before .before .before .before .before .before .before .before .loop .inv) (omega arith) _ _ (c .before .before .before .before .before .before .before .before .next-of .ensures) (c .before .before .before .before .before .before .before .prev-of .ensures) (c .before .before .before .before .if1 .left) (c .before .before .if2 .left) (sym (c .before .inside .ensures) ∙ not-false _ (c .if3 .left))
 
--- src/rings.rt:31:1
 returns-4 : tie.Need-returns-4 Inv-loop μ-loop
-returns-4 c = ?
+returns-4 c = sym (ran-out _ _ _ _ _ _ _ _ (c .before .loop .inv) (omega arith))
 
 pub follow-spec : {M : Type 1} → statement M
 follow-spec =

@@ -1,82 +1,70 @@
+-- `audit::tiling::chunk_of` meets its contract. Invariant: what is left to search from here is the whole search. Measure: the words ahead.
+use Prim.Native.Nat.{_-_}
+use mathlib.Core.Path.{sym, _∙_}
+use native.Mathlib.Omega.{arith}
+use lib.ListN.{length}
+use borrow.Author.Needs.{needs}
+use Rattle.audit.proofs.tiling.Finds.{Seeking, seeking-starts, seek-bad, seek-free, seek-used, seek-here, seek-past}
+use Rattle.audit.proofs.tiling.Headers.{free-room, used-room}
 use Rattle.audit.proofs.tiling.chunk_of.Statement.{statement}
 use Rattle.audit.proofs.tiling.chunk_of.Tie as tie
-use Rattle.audit.proofs.tiling.chunk_of.Reads as reads
-use Rattle.audit.proofs.tiling.chunk_of.Lts as lts
-use Rattle.audit.proofs.tiling.seen_at.Reads as seen-at-reads
 
 abbrev Inv-loop : tie.InvT-loop
-Inv-loop heap w at₀ left₀ at left = ?
+Inv-loop heap w at₀ left₀ at left = Seeking heap w at left
 
 abbrev μ-loop : tie.MeasureT-loop
-μ-loop heap w at₀ left₀ at left = ?
+μ-loop heap w at₀ left₀ at left = length heap - at
 
--- src/tiling.rt:136:5
 loop-holds : tie.Need-loop-holds Inv-loop μ-loop
-loop-holds c = ?
+loop-holds c = seeking-starts _ _
 
--- src/tiling.rt:137:13
 seen-at-requires : tie.Need-seen-at-requires Inv-loop μ-loop
-seen-at-requires c κs = ?
+seen-at-requires c κs = search needs
 
--- src/tiling.rt:139:26
 enum-told : tie.Need-enum-told Inv-loop μ-loop
-enum-told c = ?
+enum-told c = search needs
 
--- src/tiling.rt:139:26
 returns : tie.Need-returns Inv-loop μ-loop
-returns c = ?
+returns c = sym (seek-bad _ _ _ _ (c .before .before .before .before .loop .inv) (c .before .before .before .loop-test .taken) (sym (c .before .before .seen-at .ensures) ∙ c .enum-told .given .1))
 
--- src/tiling.rt:140:24
 enum-known-seen : tie.Need-enum-known-seen Inv-loop μ-loop
-enum-known-seen c = ?
+enum-known-seen c = search needs
 
--- src/tiling.rt:141:27
 cast-at : tie.Need-cast-at Inv-loop μ-loop
-cast-at c = ?
+cast-at c = search needs
 
--- src/tiling.rt:141:22
 add-at : tie.Need-add-at Inv-loop μ-loop
-add-at c = ?
+add-at c = omega (arith, free-room _ _ _ _ (sym (c .before .before .before .seen-at .ensures) ∙ c .before .seen .given .1))
 
--- src/tiling.rt:136:5
 loop-less : tie.Need-loop-less Inv-loop μ-loop
-loop-less c = ?
+loop-less c = omega (arith, free-room _ _ _ _ (sym (c .before .before .before .seen-at .ensures) ∙ c .before .seen .given .1))
 
--- src/tiling.rt:136:5
 loop-again : tie.Need-loop-again Inv-loop μ-loop
-loop-again c = ?
+loop-again c = seek-free _ _ _ _ _ (c .before .before .before .before .before .loop .inv) (c .before .before .before .before .loop-test .taken) (sym (c .before .before .before .seen-at .ensures) ∙ c .before .seen .given .1)
 
--- src/tiling.rt:144:24
 enum-known-seen-2 : tie.Need-enum-known-seen-2 Inv-loop μ-loop
-enum-known-seen-2 c = ?
+enum-known-seen-2 c = search needs
 
--- src/tiling.rt:145:27
 cast-at-2 : tie.Need-cast-at-2 Inv-loop μ-loop
-cast-at-2 c = ?
+cast-at-2 c = search needs
 
--- src/tiling.rt:145:22
 add-at-2 : tie.Need-add-at-2 Inv-loop μ-loop
-add-at-2 c = ?
+add-at-2 c = omega (arith, used-room _ _ _ _ (sym (c .before .before .before .seen-at .ensures) ∙ c .before .seen2 .given .1))
 
--- src/tiling.rt:136:5
 loop-less-2 : tie.Need-loop-less-2 Inv-loop μ-loop
-loop-less-2 c = ?
+loop-less-2 c = omega (arith, used-room _ _ _ _ (sym (c .before .before .before .seen-at .ensures) ∙ c .before .seen2 .given .1))
 
--- src/tiling.rt:136:5
 loop-again-2 : tie.Need-loop-again-2 Inv-loop μ-loop
-loop-again-2 c = ?
+loop-again-2 c = seek-used _ _ _ _ _ (c .before .before .before .before .before .loop .inv) (c .before .before .before .before .loop-test .taken) (sym (c .before .before .before .seen-at .ensures) ∙ c .before .seen2 .given .1)
 
--- src/tiling.rt:151:9
 seen-at-requires-2 : tie.Need-seen-at-requires-2 Inv-loop μ-loop
-seen-at-requires-2 c κs = ?
+seen-at-requires-2 c κs = search needs
 
--- src/tiling.rt:151:9
 returns-2 : tie.Need-returns-2 Inv-loop μ-loop
-returns-2 c = ?
+returns-2 c = c .seen-at2 .ensures ∙ sym (seek-here _ _ _ _ (c .before .before .before .loop .inv) (c .before .if1 .taken))
 
--- src/tiling.rt:131:1
 returns-3 : tie.Need-returns-3 Inv-loop μ-loop
-returns-3 c = ?
+returns-3 c = sym (seek-past _ _ _ _ (c .before .before .loop .inv) (c .before .loop-test .left) (c .if1 .left))
 
 pub chunk-of-spec : {M : Type 1} → statement M
 chunk-of-spec =

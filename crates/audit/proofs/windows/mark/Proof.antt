@@ -1,103 +1,86 @@
+-- `audit::windows::mark` meets its contract. Invariant: from where the window starts up to here, the marks are the free chunks. Measure: the words ahead.
+use Prim.Native.Nat.{_-_}
+use mathlib.Core.Path.{_≡_, refl, sym, _∙_}
+use native.Mathlib.Omega.{arith}
+use lib.ListN.{length}
+use borrow.Author.Needs.{needs}
+use Rattle.audit.proofs.windows.Steps.{Marking, marking-starts, marking-free, marking-used, on-free, on-used, on-bad}
 use Rattle.audit.proofs.windows.mark.Statement.{statement}
 use Rattle.audit.proofs.windows.mark.Tie as tie
-use Rattle.audit.proofs.windows.mark.Reads as reads
-use Rattle.audit.proofs.windows.mark.Lts as lts
-use Rattle.audit.proofs.tiling.known_at.Reads as known-at-reads
-use Rattle.audit.proofs.windows.put_mark.Reads as put-mark-reads
 
 abbrev Inv-loop : tie.InvT-loop
-Inv-loop heap marks₀ from left at₀ side₀ marks at side = ?
+Inv-loop heap marks₀ from left at₀ side₀ marks at side = Marking heap marks from at side × (length marks ≡ length marks₀)
 
 abbrev μ-loop : tie.MeasureT-loop
-μ-loop heap marks₀ from left at₀ side₀ marks at side = ?
+μ-loop heap marks₀ from left at₀ side₀ marks at side = length heap - at
 
--- src/windows.rt:58:5
 loop-holds : tie.Need-loop-holds Inv-loop μ-loop
-loop-holds c = ?
+loop-holds c = (marking-starts _ _ _ _ (c .before .before .pre .standing) (c .before .before .pre .bare), refl)
 
--- src/windows.rt:58:11
 add-loop : tie.Need-add-loop Inv-loop μ-loop
-add-loop c = ?
+add-loop c = search needs
 
--- src/windows.rt:59:17
 sub-d : tie.Need-sub-d Inv-loop μ-loop
-sub-d c = ?
+sub-d c = search needs
 
--- src/windows.rt:61:13
 same-length : tie.Need-same-length Inv-loop μ-loop
-same-length c = ?
+same-length c = search needs
 
--- src/windows.rt:61:13
 returns : tie.Need-returns Inv-loop μ-loop
-returns c = ?
+returns c = record { standing = c .before .before .loop .inv .0 .standing; further = omega (arith, c .before .before .before .before .before .pre .some); right = c .before .before .loop .inv .0 .right }
 
--- src/windows.rt:63:13
 known-at-requires : tie.Need-known-at-requires Inv-loop μ-loop
-known-at-requires c κs = ?
+known-at-requires c κs = λ e. on-bad _ _ _ (c .before .before .loop .inv .0 .standing) (c .before .loop-test .taken) (sym e)
 
--- src/windows.rt:65:26
 enum-told : tie.Need-enum-told Inv-loop μ-loop
-enum-told c = ?
+enum-told c = search needs
 
--- src/windows.rt:65:26
 same-length-2 : tie.Need-same-length-2 Inv-loop μ-loop
-same-length-2 c = ?
+same-length-2 c = search needs
 
--- src/windows.rt:65:26
 returns-2 : tie.Need-returns-2 Inv-loop μ-loop
-returns-2 c = ?
+returns-2 c = absurd (on-bad _ _ _ (c .before .before .before .before .before .loop .inv .0 .standing) (c .before .before .before .before .loop-test .taken) (sym (c .before .before .known-at .ensures) ∙ c .enum-told .given .1))
 
--- src/windows.rt:66:24
 enum-known-seen : tie.Need-enum-known-seen Inv-loop μ-loop
-enum-known-seen c = ?
+enum-known-seen c = search needs
 
--- src/windows.rt:67:17
 put-mark-requires : tie.Need-put-mark-requires Inv-loop μ-loop
-put-mark-requires c κs = ?
+put-mark-requires c κs = search needs
 
--- src/windows.rt:68:27
 cast-at : tie.Need-cast-at Inv-loop μ-loop
-cast-at c = ?
+cast-at c = search needs
 
--- src/windows.rt:68:22
 add-at : tie.Need-add-at Inv-loop μ-loop
-add-at c = ?
+add-at c = omega (arith, (on-free _ _ _ (c .before .before .before .before .before .before .before .before .before .before .loop .inv .0 .standing) (c .before .before .before .before .before .before .before .before .before .loop-test .taken) _ (sym (c .before .before .before .before .before .before .before .known-at .ensures) ∙ c .before .before .before .before .before .seen .given .1)) .0 .fit)
 
--- src/windows.rt:58:5
 loop-less : tie.Need-loop-less Inv-loop μ-loop
-loop-less c = ?
+loop-less c = let o = (on-free _ _ _ (c .before .before .before .before .before .before .before .before .before .before .loop .inv .0 .standing) (c .before .before .before .before .before .before .before .before .before .loop-test .taken) _ (sym (c .before .before .before .before .before .before .before .known-at .ensures) ∙ c .before .before .before .before .before .seen .given .1)) .0 in omega (arith, o .fit, o .span)
 
--- src/windows.rt:58:5
 loop-again : tie.Need-loop-again Inv-loop μ-loop
-loop-again c = ?
+loop-again c = 
+    let o = (on-free _ _ _ (c .before .before .before .before .before .before .before .before .before .before .loop .inv .0 .standing) (c .before .before .before .before .before .before .before .before .before .loop-test .taken) _ (sym (c .before .before .before .before .before .before .before .known-at .ensures) ∙ c .before .before .before .before .before .seen .given .1)) in
+    (rw (c .before .before .put-mark .ensures) (marking-free _ _ _ _ _ (c .before .before .before .before .before .before .before .before .before .before .loop .inv .0) _ _ (o .0) (o .1) (c .before .before .before .before .before .before .before .before .if1 .left)), c .before .before .put-mark .kept .0 ∙ c .before .before .before .before .before .before .before .before .before .before .loop .inv .1)
 
--- src/windows.rt:71:24
 enum-known-seen-2 : tie.Need-enum-known-seen-2 Inv-loop μ-loop
-enum-known-seen-2 c = ?
+enum-known-seen-2 c = search needs
 
--- src/windows.rt:72:27
 cast-at-2 : tie.Need-cast-at-2 Inv-loop μ-loop
-cast-at-2 c = ?
+cast-at-2 c = search needs
 
--- src/windows.rt:72:22
 add-at-2 : tie.Need-add-at-2 Inv-loop μ-loop
-add-at-2 c = ?
+add-at-2 c = omega (arith, (on-used _ _ _ (c .before .before .before .before .before .before .loop .inv .0 .standing) (c .before .before .before .before .before .loop-test .taken) _ (sym (c .before .before .before .known-at .ensures) ∙ c .before .seen2 .given .1)) .fit)
 
--- src/windows.rt:58:5
 loop-less-2 : tie.Need-loop-less-2 Inv-loop μ-loop
-loop-less-2 c = ?
+loop-less-2 c = let o = (on-used _ _ _ (c .before .before .before .before .before .before .loop .inv .0 .standing) (c .before .before .before .before .before .loop-test .taken) _ (sym (c .before .before .before .known-at .ensures) ∙ c .before .seen2 .given .1)) in omega (arith, o .fit, o .span)
 
--- src/windows.rt:58:5
 loop-again-2 : tie.Need-loop-again-2 Inv-loop μ-loop
-loop-again-2 c = ?
+loop-again-2 c = (marking-used _ _ _ _ _ (c .before .before .before .before .before .before .loop .inv .0) _ _ (on-used _ _ _ (c .before .before .before .before .before .before .loop .inv .0 .standing) (c .before .before .before .before .before .loop-test .taken) _ (sym (c .before .before .before .known-at .ensures) ∙ c .before .seen2 .given .1)), c .before .before .before .before .before .before .loop .inv .1)
 
--- src/windows.rt:52:1
 same-length-3 : tie.Need-same-length-3 Inv-loop μ-loop
-same-length-3 c = ?
+same-length-3 c = search needs
 
--- src/windows.rt:52:1
 returns-3 : tie.Need-returns-3 Inv-loop μ-loop
-returns-3 c = ?
+returns-3 c = record { standing = c .before .loop .inv .0 .standing; further = omega (arith, c .before .before .before .before .pre .before); right = c .before .loop .inv .0 .right }
 
 pub mark-spec : {M : Type 1} → statement M
 mark-spec =
