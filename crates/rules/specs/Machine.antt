@@ -7,7 +7,7 @@ use lib.ListN.{length, take, drop}
 use Rattle.words.specs.Choice.{pick}
 use Rattle.rules.specs.Chunks.{Chunk, free, taken, release}
 use Rattle.words.specs.Sizes.{classOf, roundedOf, startOf}
-use Rattle.rules.specs.Search.{Found, at, nowhere, lost, find, searchAll}
+use Rattle.rules.specs.Search.{Found, at, nowhere, lost, find, inTurn}
 use Rattle.rules.specs.Place.{lenAt, indexAt, usedAt}
 use Rattle.rules.specs.Orders.{takenOrders, mergedOrders, freeLast, freeHead, push}
 use Rattle.rules.specs.Rules.{Figures, Outcome, says, byteOf, nameOf, Chosen, none, one, choose, listed, withCached, counted, released}
@@ -39,8 +39,12 @@ tookM m x n z =
       figs = counted (m .figs) (portion n z) (byteOf x + portion n z);
     }
 
+-- the listed chunks in the order of a search for z bytes: the lists from the start class upwards
+abbrev pub searched : Model → ℕ → List ℕ
+searched m z = inTurn (m .orders) (6 - startOf z) (startOf z)
+
 abbrev pub searchM : Model → ℕ → Found
-searchM m z = searchAll (λ j. find (sizeM m) z (m .orders j)) (6 - startOf z) (startOf z) 0
+searchM m z = find (sizeM m) z (searched m z) 0
 
 abbrev pub fromListM : Model → ℕ → Found → Outcome Model
 fromListM m z (at x c) = says 0 (byteOf x + 4) c (tookM m x (sizeM m x) z)

@@ -1,5 +1,5 @@
 -- FIRST FIT with its compared count: along an order, along the links, and through the lists from a class upwards.
-use mathlib.Core.List.{List, [], _∷_}
+use mathlib.Core.List.{List, [], _∷_, _++_}
 use Prim.Native.Nat.{ℕ, zero, suc}
 use lib.Dec.{eqb, leb}
 use Rattle.words.specs.Choice.{pick}
@@ -14,6 +14,11 @@ pub data Found : Type 0 where
 unfoldable pub find : (ℕ → ℕ) → ℕ → List ℕ → ℕ → Found
 find size z [] c = nowhere c
 find size z (x ∷ xs) c = let r = find size z xs (suc c) in pick (leb z (size x)) (at x (suc c)) r
+
+-- n lists of a family, from list k on, one after the other
+unfoldable pub inTurn : (ℕ → List ℕ) → ℕ → ℕ → List ℕ
+inTurn O zero k = []
+inTurn O (suc n) k = O k ++ inTurn O n (suc k)
 
 -- the same, following the links until the sentinel k comes; at most `fuel` are compared
 unfoldable pub findWalk : (ℕ → ℕ) → (ℕ → ℕ) → ℕ → ℕ → ℕ → ℕ → ℕ → Found

@@ -2,14 +2,11 @@
 -- Assumes nothing.
 use mathlib.Core.Path.{_≡_}
 use mathlib.Core.Logic.{_⊎_}
-use mathlib.Core.Bool.{Bool, true, false}
+use mathlib.Core.Bool.{Bool, false}
 use mathlib.Core.List.{List, [], _∷_}
 use Prim.Native.Nat.{ℕ, _+_, _-_, _*_, _/_}
+use Rattle.words.specs.Choice.{bit}
 use Rattle.rules.specs.Chunks.{Chunk}
-
-abbrev pub bit : Bool → ℕ
-bit true = 1
-bit false = 0
 
 -- what the header of the first chunk, or the guard, says but for its left bit
 abbrev pub headTag : List Chunk → ℕ

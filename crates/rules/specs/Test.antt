@@ -80,8 +80,8 @@ module _ {S : Type 0} (op : Ops S Figures) (most places : ℕ) where
   unfoldable pub candidate : S → Model
   candidate s =
       record {
-        cs = tile (op .word s) (op .count s + 7) 0;
-        orders = λ k. walk (op .next s) k (op .count s + 7) (op .next s k);
+        cs = tile (op .word s) (op .count s) 0;
+        orders = λ k. walk (op .next s) k (op .count s) (op .next s k);
         figs = op .rest s;
       }
 

@@ -1,0 +1,500 @@
+-- The rules on states follow the rules without memory, cache and figures included; so soundness is kept. Assumes nothing.
+use mathlib.Core.Path.{_≡_, refl, sym, ap, _∙_, subst, fun-ext}
+use mathlib.Core.Logic.{_≢_, _⊎_, inl, inr}
+use mathlib.Core.Bool.{Bool, true, false}
+use mathlib.Core.List.{List, [], _∷_, _++_, List·Memᴰ·head, List·Memᴰ·tail, List·Memᴰ·not-nil, List·Memᴰ·append-cases, List·Memᴰ·eq-of-singleton}
+use Prim.Native.Nat.{ℕ, suc, _+_, _-_, _*_, _/_, _%_, _≤_, _<_}
+use native.Mathlib.Omega.{arith}
+use native.Mathlib.Nat.{zero-add}
+use lib.Dec.{eqb, leb, ltb}
+use lib.ListN.{length, getD, drop, length-append}
+use lib.Seq.{take-append-seam, getD-append-seam}
+use borrow.Author.Tests.{eqb-true, eqb-false, leb-true}
+use Rattle.words.specs.Choice.{pick, bit}
+use Rattle.rules.specs.Lists.{Mem, Distinct, Seg}
+use Rattle.rules.specs.Ops.{Ops}
+use Rattle.rules.specs.Steps.{portion, lengthAt, takeChunk, releaseChunk, leftFree}
+use Rattle.rules.proofs.Bytes.{takeStep, releaseStep, take-words, release-words}
+use Rattle.rules.proofs.Store.{LinkStore}
+use Rattle.rules.proofs.Rings.{ring-once}
+use Rattle.rules.specs.Chunks.{Chunk, free, busy, total, Legal, Calm, taken, release, usedSum}
+use Rattle.rules.proofs.Chunks.{total-append, taken-calm, release-calm}
+use Rattle.rules.specs.Exact.{slot, In, frees}
+use Rattle.rules.specs.Tags.{Tags}
+use Rattle.rules.proofs.Tags.{lastUsed, tags-back}
+use Rattle.rules.proofs.Part.{legal-front, legal-back}
+use Rattle.rules.proofs.Calls.{Whole, total-8}
+use Rattle.rules.specs.Orders.{mergedOrders, freeLast, freeHead, takenOrders}
+use Rattle.rules.proofs.Release.{release-refines, left-read}
+use Rattle.rules.proofs.Take.{take-refines}
+use Rattle.rules.specs.Search.{Found, at, nowhere, lost}
+use Rattle.rules.proofs.Search.{find-fits, Fits, in-turn, search-walk}
+use Rattle.rules.specs.Place.{lenAt, usedAt}
+use Rattle.rules.proofs.Place.{free-at, len-at, index-at, used-walk, used-at, header-len, bit-le}
+use Rattle.words.specs.Sizes.{classOf, roundedOf, startOf}
+use Rattle.rules.proofs.Threshold.{cls6}
+use Rattle.rules.proofs.Audit.{enough}
+use Rattle.rules.proofs.Named.{chunks-few, size-at, byte-at, size-same, listed-few}
+use Rattle.rules.specs.Rules.{Figures, Outcome, says, byteOf, nameOf, Chosen, none, one, behind, serves, choose, listed, withCached, counted, released, firstFit, fromList, fromCache, serve, handOut, live, settled, takeBack}
+use Rattle.rules.specs.Machine.{Model, sizeM, tookM, searched, searchM, fromListM, fromCacheM, handOutM, liveM, gaveM, settledM, takeBackM}
+use Rattle.rules.specs.Sound.{Accepted, Under, CacheRight, FiguresRight, Shows}
+use Rattle.rules.proofs.LayoutFacts.{release-used, taken-used, used-len, release-sums, taken-sums, under-more, under-release, under-taken}
+
+-- ---- the cache, as a list
+
+-- what was chosen serves, is one of ks, and the others are the rest of ks; where none is chosen none serves
+abbrev pub Picked : (ℕ → ℕ) → ℕ → List ℕ → Chosen → Type 0
+Picked size z ks none = (y : ℕ) → Mem y ks → serves (size y) z ≡ false
+Picked size z ks (one x xs) = (serves (size x) z ≡ true) × Mem x ks × ((y : ℕ) → Mem y xs → Mem y ks) × (Distinct ks → Distinct xs) × (length xs < length ks)
+
+pub choose-picked : (size : ℕ → ℕ) (z : ℕ) (ks : List ℕ) → Picked size z ks (choose size z ks)
+unfolding choose
+choose-picked size z [] = λ y m. absurd (List·Memᴰ·not-nil m)
+choose-picked size z (k ∷ ks) = go (serves (size k) z) refl (choose size z ks) (choose-picked size z ks)
+  where
+    wide : (x : ℕ) (xs : List ℕ) → ((y : ℕ) → Mem y xs → Mem y ks) → (y : ℕ) → Mem y (k ∷ xs) → Mem y (k ∷ ks)
+    wide x xs f y (List·Memᴰ·head e) = List·Memᴰ·head e
+    wide x xs f y (List·Memᴰ·tail m) = List·Memᴰ·tail (f y m)
+
+    all : serves (size k) z ≡ false → ((y : ℕ) → Mem y ks → serves (size y) z ≡ false) → (y : ℕ) → Mem y (k ∷ ks) → serves (size y) z ≡ false
+    all e f y (List·Memᴰ·head q) = ap (λ (x : ℕ). serves (size x) z) q ∙ e
+    all e f y (List·Memᴰ·tail m) = f y m
+
+    go : (t : Bool) → serves (size k) z ≡ t → (r : Chosen) → Picked size z ks r → Picked size z (k ∷ ks) (pick t (one k ks) (behind k r))
+    go true e r p = (e, List·Memᴰ·head refl, λ y m. List·Memᴰ·tail m, λ d. d .1, omega arith)
+    go false e none p = all e p
+    go false e (one x xs) p = let q = p .4 in
+        (p .0, List·Memᴰ·tail (p .1), wide x xs (p .2), λ d. (λ m. d .0 (p .2 k m), p .3 (d .1)), omega arith)
+
+pub choose-same : (f g : ℕ → ℕ) (z : ℕ) (ks : List ℕ) → ((x : ℕ) → Mem x ks → f x ≡ g x) → choose f z ks ≡ choose g z ks
+unfolding choose
+choose-same f g z [] h = refl
+choose-same f g z (k ∷ ks) h =
+    rw (h k (List·Memᴰ·head refl)) (ap (λ (r : Chosen). pick (serves (g k) z) (one k ks) (behind k r)) (choose-same f g z ks (λ x m. h x (List·Memᴰ·tail m))))
+
+pub listed-false : (x : ℕ) (ks : List ℕ) → listed x ks ≡ false → Mem x ks → ⊥
+unfolding listed
+listed-false x [] e m = List·Memᴰ·not-nil m
+listed-false x (k ∷ ks) e m = go (λ f i. listed-false x ks f i) (eqb x k) refl e m
+  where
+    go : (listed x ks ≡ false → Mem x ks → ⊥) → (t : Bool) → eqb x k ≡ t → pick t true (listed x ks) ≡ false → Mem x (k ∷ ks) → ⊥
+    go r true q f i = let z : _≡_ {A = ℕ} 0 1 = cc in omega arith
+    go r false q f (List·Memᴰ·head i) = eqb-false x k q i
+    go r false q f (List·Memᴰ·tail i) = r f i
+
+pub listed-true : (x : ℕ) (ks : List ℕ) → listed x ks ≡ true → Mem x ks
+unfolding listed
+listed-true x [] e = absurd (let z : _≡_ {A = ℕ} 0 1 = cc in omega arith)
+listed-true x (k ∷ ks) e = go (λ f. listed-true x ks f) (eqb x k) refl e
+  where
+    go : (listed x ks ≡ true → Mem x ks) → (t : Bool) → eqb x k ≡ t → pick t true (listed x ks) ≡ true → Mem x (k ∷ ks)
+    go r true q f = List·Memᴰ·head (eqb-true x k q)
+    go r false q f = List·Memᴰ·tail (r f)
+
+distinct-snoc : (ks : List ℕ) (x : ℕ) → Distinct ks → (Mem x ks → ⊥) → Distinct (ks ++ x ∷ [])
+distinct-snoc [] x d h = (λ m. List·Memᴰ·not-nil m, tt)
+distinct-snoc (k ∷ ks) x d h = (λ m. go (List·Memᴰ·append-cases ks m), distinct-snoc ks x (d .1) (λ m. h (List·Memᴰ·tail m)))
+  where
+    go : Mem k ks ⊎ Mem k (x ∷ []) → ⊥
+    go (inl m) = d .0 m
+    go (inr m) = h (List·Memᴰ·head (sym (List·Memᴰ·eq-of-singleton m)))
+
+-- what is used ends at or before h: in use ≤ high water
+under-sum : (h b : ℕ) (cs : List Chunk) → Under h b cs → (usedSum cs ≡ 0) ⊎ (b + usedSum cs ≤ h)
+under-sum h b [] u = inl refl
+under-sum h b (c ∷ cs) u = go (c .used) refl (under-sum h (b + c .len) cs (u .1))
+  where
+    go : (t : Bool) → c .used ≡ t → (usedSum cs ≡ 0) ⊎ (b + c .len + usedSum cs ≤ h) → (pick (c .used) (c .len) 0 + usedSum cs ≡ 0) ⊎ (b + (pick (c .used) (c .len) 0 + usedSum cs) ≤ h)
+    go true e (inl q) = let a = u .0 in let f : pick (c .used) (b + c .len) 0 ≡ b + c .len = ap (λ (t : Bool). pick t (b + c .len) 0) e in
+        let g : pick (c .used) (c .len) 0 ≡ c .len = ap (λ (t : Bool). pick t (c .len) 0) e in inr (omega arith)
+    go true e (inr q) = let g : pick (c .used) (c .len) 0 ≡ c .len = ap (λ (t : Bool). pick t (c .len) 0) e in inr (omega arith)
+    go false e (inl q) = let g : pick (c .used) (c .len) 0 ≡ 0 = ap (λ (t : Bool). pick t (c .len) 0) e in inl (omega arith)
+    go false e (inr q) = let g : pick (c .used) (c .len) 0 ≡ 0 = ap (λ (t : Bool). pick t (c .len) 0) e in inr (omega arith)
+
+pub sum-under : (h : ℕ) (cs : List Chunk) → Under h 0 cs → usedSum cs ≤ h
+sum-under h cs u = go (under-sum h 0 cs u)
+  where
+    go : (usedSum cs ≡ 0) ⊎ (0 + usedSum cs ≤ h) → usedSum cs ≤ h
+    go (inl e) = omega arith
+    go (inr e) = omega arith
+
+pub r16 : (q : ℕ) → 16 ≤ roundedOf q
+r16 q = omega arith
+
+pub r8 : (q : ℕ) → roundedOf q % 8 ≡ 0
+r8 q = omega arith
+
+portion-8 : (n z : ℕ) → n % 8 ≡ 0 → z % 8 ≡ 0 → (portion n z % 8 ≡ 0)
+portion-8 n z a b = go (leb (z + 12) n)
+  where
+    go : (t : Bool) → pick t z n % 8 ≡ 0
+    go true = b
+    go false = a
+
+portion-le : (n z : ℕ) → portion n z ≤ n
+portion-le n z = go (leb (z + 12) n) refl
+  where
+    go : (t : Bool) → leb (z + 12) n ≡ t → pick t z n ≤ n
+    go true e = let h = leb-true (z + 12) n e in omega arith
+    go false e = omega arith
+
+freeLast-8 : (f : ℕ) (cs : List Chunk) → f % 8 ≡ 0 → Legal cs → freeLast f cs % 8 ≡ 0
+freeLast-8 f [] h l = h
+freeLast-8 f (c ∷ cs) h l = freeLast-8 (pick (c .used) 0 (c .len)) cs (go (c .used)) (l .2)
+  where
+    go : (u : Bool) → pick u 0 (c .len) % 8 ≡ 0
+    go true = refl
+    go false = l .1
+
+freeLast-le : (f : ℕ) (cs : List Chunk) → freeLast f cs ≤ f + total cs
+freeLast-le f [] = omega arith
+freeLast-le f (c ∷ cs) = go (c .used) (freeLast-le (pick (c .used) 0 (c .len)) cs)
+  where
+    go : (u : Bool) → freeLast (pick (c .used) 0 (c .len)) cs ≤ pick u 0 (c .len) + total cs → freeLast (pick (c .used) 0 (c .len)) cs ≤ f + (c .len + total cs)
+    go true r = omega arith
+    go false r = omega arith
+
+drop-seam : (pre : List Chunk) (c : Chunk) (post : List Chunk) → drop (suc (length pre)) (pre ++ c ∷ post) ≡ post
+drop-seam [] c post = refl
+drop-seam (d ∷ pre) c post = drop-seam pre c post
+
+abbrev model : List Chunk → (ℕ → List ℕ) → Figures → Model
+model cs O f = record { cs = cs; orders = O; figs = f }
+
+-- AN EDITION: for each accepted length a link store over the same operations
+pub record Edition {S : Type 0} (op : Ops S Figures) (most places : ℕ) : Type 1 where
+  pub store : (n : ℕ) → Accepted most n → LinkStore op
+  pub bytes : (n : ℕ) (a : Accepted most n) → store n a .bytes ≡ 4 * (n - 1)
+  pub fit : (n : ℕ) (a : Accepted most n) (r : Figures) → length (r .cached) ≤ places → ((x : ℕ) → Mem x (r .cached) → 6 ≤ x) → store n a .Fit r
+
+-- an outcome on states follows one on models
+pub record Follows {S : Type 0} (op : Ops S Figures) (most places : ℕ) (o : Outcome S) (q : Outcome Model) : Type 0 where
+  pub number : o .number ≡ q .number
+  pub value : o .value ≡ q .value
+  pub compared : o .compared ≡ q .compared
+  pub after : Shows op most places (o .after) (q .after)
+
+module _ {S : Type 0} {op : Ops S Figures} {most places : ℕ} (E : Edition op most places) where
+  abbrev Sh : S → Model → Type 0
+  Sh = Shows op most places
+
+  abbrev F : Outcome S → Outcome Model → Type 0
+  F = Follows op most places
+
+  -- BACK to Sound from the theory's form
+  pub shown : (n : ℕ) (a : Accepted most n) (t : S) (m : Model) → Whole (E .store n a) classOf cls6 t (m .orders) (m .cs) → Calm (m .cs) → op .rest t ≡ m .figs → m .figs .words ≡ n
+      → CacheRight places (m .figs .cached) (m .cs) → FiguresRight (m .figs) (4 * (n - 1)) (m .cs) → Sh t m
+  shown n a t m w k r e c f =
+      let b = E .bytes n a in
+      let q = E .store n a .good-count t (w .rings .good) in
+      let y : op .count t ≡ n = omega arith in
+      record {
+        six = E .store n a .good-six t (w .rings .good);
+        figs = r;
+        words = e ∙ sym y;
+        accepted = subst (Accepted most) (sym y) a;
+        legal = w .legal;
+        fills = w .size ∙ b ∙ ap (λ (x : ℕ). 4 * (x - 1)) (sym y);
+        tags = w .tags;
+        calm = k;
+        lists = w .rings .ring;
+        exact = w .exact;
+        cache = c;
+        right = subst (λ (x : ℕ). FiguresRight (m .figs) (4 * (x - 1)) (m .cs)) (sym y) f;
+      }
+
+  pub whole-rest : (L : LinkStore op) (s : S) (r : Figures) (O : ℕ → List ℕ) (cs : List Chunk) → Whole L classOf cls6 s O cs → Whole L classOf cls6 (op .setRest s r) O cs
+  whole-rest L s r O cs w = record {
+    rings = record {
+      good = L .good-setRest s r (w .rings .good);
+      ring = λ k h. subst (λ f. Seg f (op .prev (op .setRest s r)) k (O k) k) (sym (fun-ext (λ x. L .next-setRest s r x)))
+          (subst (λ g. Seg (op .next s) g k (O k) k) (sym (fun-ext (λ x. L .prev-setRest s r x))) (w .rings .ring k h));
+      node = w .rings .node;
+      once = w .rings .once;
+      apart = w .rings .apart;
+    };
+    exact = w .exact;
+    sub = w .sub;
+    legal = w .legal;
+    size = w .size;
+    tags = subst (λ f. Tags f 0 true cs) (sym (fun-ext (λ i. L .word-setRest s r i))) (w .tags);
+  }
+
+  module _ (s : S) (m : Model) (h : Sh s m) where
+    abbrev pub L : LinkStore op
+    L = E .store (op .count s) (h .accepted)
+
+    pub bytes : L .bytes ≡ 4 * (op .count s - 1)
+    bytes = E .bytes (op .count s) (h .accepted)
+
+    -- INTO the theory's form
+    pub whole : Whole L classOf cls6 s (m .orders) (m .cs)
+    whole =
+        enough L classOf cls6 s (m .orders) (m .cs) (L .good-is s bytes (h .accepted .0) (h .six)) (h .legal) (h .fills ∙ sym bytes) (h .tags) (h .lists) (h .exact)
+
+    -- a chunk takes at least 16 bytes
+    pub few : length (m .cs) ≤ op .count s / 4
+    few = let c = chunks-few (m .cs) (h .legal) in let q = h .fills in omega arith
+
+    -- SEARCH: along the links as along the orders
+    pub search-same : (sound : S → Bool) (z : ℕ) → firstFit op places sound s z ≡ searchM m z
+    unfolding firstFit
+    search-same sound z =
+        let l = listed-few L classOf cls6 s (m .orders) (m .cs) whole (6 - startOf z) (startOf z) (omega arith) in
+        let c = few in
+        search-walk (op .next s) (op .prev s) (lengthAt op s) (sizeM m) z (op .count s / 4) (m .orders) (6 - startOf z) (startOf z) 0
+        (λ j q. let hj : j < 6 = omega arith in (
+          (ring-once L s (m .orders) (whole .rings) j hj) .0,
+          h .lists j hj,
+          size-same L classOf cls6 s (m .orders) (m .cs) whole j hj,
+        ))
+        (omega arith)
+
+    -- a chunk that a search meets is a free one
+    pub met-free : (z x : ℕ) → Mem x (searched m z) → (n : ℕ) × In (slot x n) (frees 0 (m .cs))
+    met-free z x i =
+        let t = in-turn (m .orders) (6 - startOf z) (startOf z) x i in
+        let r = h .exact .only (t .0) x (let p = t .2 in omega arith) (t .3) in
+        (r .0, r .1)
+
+    pub met-size : (z x : ℕ) → Mem x (searched m z) → lengthAt op s x ≡ sizeM m x
+    met-size z x i =
+        let t = in-turn (m .orders) (6 - startOf z) (startOf z) x i in
+        size-same L classOf cls6 s (m .orders) (m .cs) whole (t .0) (let p = t .2 in omega arith) x (t .3)
+
+    -- a used chunk's length, read from its header
+    pub used-size : (x : ℕ) → 6 ≤ x → 0 < usedAt (m .cs) (byteOf x) → lengthAt op s x ≡ usedAt (m .cs) (byteOf x)
+    used-size x h6 p =
+        let n = usedAt (m .cs) (byteOf x) in
+        let u = used-at (m .cs) (byteOf x) (omega arith) in
+        let l = legal-back (u .pre) (busy n ∷ u .post) (subst Legal (u .is) (h .legal)) in
+        let t = tags-back (op .word s) 0 true (u .pre) (busy n ∷ u .post) (subst (λ cs. Tags (op .word s) 0 true cs) (u .is) (h .tags)) in
+        let y : (x - 6) * 4 ≡ total (u .pre) = u .byte in
+        let q : x - 6 ≡ (0 + total (u .pre)) / 4 = omega arith in
+        ap (λ (i : ℕ). op .word s i / 4 * 4) q ∙ header-len (op .word s ((0 + total (u .pre)) / 4)) n 1 (bit (lastUsed true (u .pre))) (l .1) (omega arith) (bit-le (lastUsed true (u .pre))) (t .0)
+
+    pub used-same : (x : ℕ) → 6 ≤ x → 0 < usedAt (m .cs) (byteOf x) → lengthAt op s x ≡ sizeM m x
+    used-same x h6 p = used-size x h6 p ∙ sym (used-len (m .cs) (byteOf x) (h .legal) p)
+
+    pub choose-cached : (z : ℕ) → choose (lengthAt op s) z (op .rest s .cached) ≡ choose (sizeM m) z (m .figs .cached)
+    choose-cached z =
+        ap (λ (r : Figures). choose (lengthAt op s) z (r .cached)) (h .figs)
+        ∙ choose-same (lengthAt op s) (sizeM m) z (m .figs .cached) (λ x i. let u = h .cache .used x i in used-same x (u .0) (u .1))
+
+    -- only the cache changes
+    pub recached : (ks : List ℕ) → CacheRight places ks (m .cs) → Sh (op .setRest s (withCached (op .rest s) ks)) (model (m .cs) (m .orders) (withCached (m .figs) ks))
+    recached ks c =
+        rw (h .figs)
+        (shown (op .count s) (h .accepted) (op .setRest s (withCached (m .figs) ks)) (model (m .cs) (m .orders) (withCached (m .figs) ks))
+        (whole-rest L s (withCached (m .figs) ks) (m .orders) (m .cs) whole) (h .calm)
+        (L .rest-setRest s (withCached (m .figs) ks) (E .fit (op .count s) (h .accepted) (withCached (m .figs) ks) (c .room) (λ x i. (c .used x i) .0)))
+        (h .words) c
+        (record { inUse = h .right .inUse; peak = h .right .peak; high = h .right .high; heap = h .right .heap; eights = h .right .eights; ends = h .right .ends }))
+
+  -- TAKEN from a list
+  took : (s : S) (pre : List Chunk) (n : ℕ) (post : List Chunk) (O : ℕ → List ℕ) (f : Figures) (x z : ℕ) → 16 ≤ z → z % 8 ≡ 0 → x ≡ (0 + total pre) / 4 + 6
+      → Sh s (model (pre ++ free n ∷ post) O f)
+      → Sh (op .setRest (takeChunk op s (x - 6) (lengthAt op s x) z) (counted (op .rest s) (portion (lengthAt op s x) z) (byteOf x + portion (lengthAt op s x) z)))
+      (tookM (model (pre ++ free n ∷ post) O f) x (lenAt (pre ++ free n ∷ post) (byteOf x)) z)
+  unfolding tookM
+  took s pre n post O f x z z16 z8 e h =
+      let w = whole s (model (pre ++ free n ∷ post) O f) h in
+      let a = h .accepted in
+      let L = E .store (op .count s) a in
+      let lp = legal-front pre (free n ∷ post) (h .legal) in
+      let ln = legal-back pre (free n ∷ post) (h .legal) in
+      let t8 = total-8 pre lp in
+      let b : byteOf x ≡ 0 + total pre = byte-at pre x lp e in
+      let y : lengthAt op s x ≡ n = size-at L classOf cls6 s O pre n post x e w in
+      let i = index-at pre (free n) post (0 + total pre) lp (omega arith) in
+      let j = len-at pre (free n) post (0 + total pre) lp (omega arith) in
+      let p8 = portion-8 n z (ln .1) z8 in
+      let ple = portion-le n z in
+      let g : Figures = counted f (portion n z) (0 + total pre + portion n z) in
+      let fl = h .fills in
+      let ta = total-append pre (free n ∷ post) in
+      let su = taken-sums pre n post z in
+      let iu = h .right .inUse in
+      let un : Under (g .high) 0 (taken (pre ++ free n ∷ post) (length pre) z) =
+      under-taken (g .high) 0 pre n post z (under-more (f .high) (g .high) 0 (pre ++ free n ∷ post) (omega arith) (h .right .ends)) (omega arith) in
+      let top = sum-under (g .high) (taken (pre ++ free n ∷ post) (length pre) z) un in
+      let c : CacheRight places (f .cached) (taken (pre ++ free n ∷ post) (length pre) z) = record {
+        used = λ k q. let u = h .cache .used k q in
+            (u .0, subst (λ (v : ℕ). 0 < v) (sym (taken-used pre n post z (byteOf k) (h .legal) z16 (let v = u .1 in omega arith))) (u .1));
+        once = h .cache .once;
+        room = h .cache .room;
+      } in
+      rw (take-words op s (x - 6) (lengthAt op s x) z (omega arith), y, b, i, j, h .figs)
+      (shown (op .count s) a (op .setRest (takeStep op classOf s (0 + total pre) n z) g) (model (taken (pre ++ free n ∷ post) (length pre) z) (takenOrders classOf O (0 + total pre) n z) g)
+      (whole-rest L (takeStep op classOf s (0 + total pre) n z) g (takenOrders classOf O (0 + total pre) n z) (taken (pre ++ free n ∷ post) (length pre) z) (take-refines L classOf cls6 s O pre n post z z16 z8 (h .calm) w))
+      (taken-calm (pre ++ free n ∷ post) (length pre) z (h .calm) (free-seam pre n post))
+      (L .rest-setRest (takeStep op classOf s (0 + total pre) n z) g (E .fit (op .count s) a g (h .cache .room) (λ k q. (h .cache .used k q) .0)))
+      (h .words) c
+      (let hp = h .right .peak in let hh = h .right .high in let hb = h .right .heap in let h8 = h .right .eights in
+      record { inUse = omega arith; peak = omega arith; high = omega arith; heap = omega arith; eights = omega arith; ends = un }))
+    where
+      free-seam : (pre : List Chunk) (n : ℕ) (post : List Chunk) → (getD (pre ++ free n ∷ post) (length pre) (busy 0)) .used ≡ false
+      free-seam pre n post = ap (λ (c : Chunk). c .used) (getD-append-seam pre (free n) post (busy 0))
+
+  -- the free bytes on the left of a used chunk: words that stand before it
+  pub left-there : (L : LinkStore op) (s : S) (pre : List Chunk) (n : ℕ) (post : List Chunk) (k : ℕ) → byteOf k ≡ total pre → 6 ≤ k → Legal (pre ++ busy n ∷ post) → Tags (op .word s) 0 true (pre ++ busy n ∷ post)
+      → (leftFree op s (k - 6) % 8 ≡ 0) × (leftFree op s (k - 6) / 4 ≤ k - 6)
+  left-there L s pre n post k e k6 l t =
+      let q : k - 6 ≡ (0 + total pre) / 4 = omega arith in
+      let r : leftFree op s (k - 6) ≡ freeLast 0 pre = ap (λ (w : ℕ). leftFree op s w) q ∙ left-read L classOf cls6 s pre n post l t in
+      let z = freeLast-8 0 pre refl (legal-front pre (busy n ∷ post) l) in
+      let y = freeLast-le 0 pre in
+      (omega arith, omega arith)
+
+  -- RELEASED, the chunks ks staying cached
+  gave : (s : S) (pre : List Chunk) (n : ℕ) (post : List Chunk) (O : ℕ → List ℕ) (f : Figures) (k : ℕ) (ks : List ℕ) → byteOf k ≡ total pre → 6 ≤ k
+      → 0 < usedAt (pre ++ busy n ∷ post) (byteOf k) → ((x : ℕ) → Mem x ks → (6 ≤ x) × (0 < usedAt (pre ++ busy n ∷ post) (byteOf x))) → Distinct (k ∷ ks) → length ks ≤ places
+      → Sh s (model (pre ++ busy n ∷ post) O f)
+      → Sh (op .setRest (releaseChunk op s (k - 6) (lengthAt op s k)) (released (op .rest s) ks (lengthAt op s k)))
+      (gaveM (model (pre ++ busy n ∷ post) O f) ks (byteOf k) (lenAt (pre ++ busy n ∷ post) (byteOf k)))
+  unfolding gaveM
+  gave s pre n post O f k ks e k6 up us d rm h =
+      let w = whole s (model (pre ++ busy n ∷ post) O f) h in
+      let a = h .accepted in
+      let L = E .store (op .count s) a in
+      let cs : List Chunk = release (pre ++ busy n ∷ post) (length pre) in
+      let lp = legal-front pre (busy n ∷ post) (h .legal) in
+      let b : byteOf k ≡ 0 + total pre = e ∙ sym (zero-add (total pre)) in
+      let j = len-at pre (busy n) post (byteOf k) lp e in
+      let y : lengthAt op s k ≡ n = used-same s (model (pre ++ busy n ∷ post) O f) h k k6 up ∙ j in
+      let i = index-at pre (busy n) post (0 + total pre) lp (omega arith) in
+      let j′ = len-at pre (busy n) post (0 + total pre) lp (omega arith) in
+      let g : Figures = released f ks n in
+      let su = release-sums pre n post in
+      let iu = h .right .inUse in
+      let lt = left-there L s pre n post k e k6 (h .legal) (h .tags) in
+      let c : CacheRight places ks cs = record {
+        used = λ x q. let u = us x q in
+            (u .0, subst (λ (v : ℕ). 0 < v) (sym (release-used pre n post (byteOf x) (h .legal) (other x q (u .0)))) (u .1));
+        once = d .1;
+        room = rm;
+      } in
+      rw (release-words op s (k - 6) (lengthAt op s k) (omega arith) (lt .1), y, b, i, j′, take-append-seam pre (busy n ∷ post), drop-seam pre (busy n) post, h .figs)
+      (shown (op .count s) a (op .setRest (releaseStep op classOf s (0 + total pre) n) g)
+      (model cs (mergedOrders classOf O (0 + total pre - freeLast 0 pre) (freeLast 0 pre) n (freeHead post)) g)
+      (whole-rest L (releaseStep op classOf s (0 + total pre) n) g (mergedOrders classOf O (0 + total pre - freeLast 0 pre) (freeLast 0 pre) n (freeHead post)) cs (release-refines L classOf cls6 s O pre n post (h .calm) w))
+      (release-calm (pre ++ busy n ∷ post) (length pre) (h .calm))
+      (L .rest-setRest (releaseStep op classOf s (0 + total pre) n) g (E .fit (op .count s) a g rm (λ x q. (us x q) .0)))
+      (h .words) c
+      (let hp = h .right .peak in
+      record { inUse = omega arith; peak = omega arith; high = h .right .high; heap = h .right .heap; eights = h .right .eights; ends = under-release (f .high) 0 (pre ++ busy n ∷ post) (length pre) (h .right .ends) }))
+    where
+      other : (x : ℕ) → Mem x ks → 6 ≤ x → byteOf x ≢ total pre
+      other x q x6 v = d .0 (subst (λ (t : ℕ). Mem t ks) (let r : x ≡ k = omega arith in r) q)
+
+  module _ (sound : S → Bool) (s : S) (m : Model) (h : Sh s m) where
+    pub settles : (ks : List ℕ) → ((x : ℕ) → Mem x ks → (6 ≤ x) × (0 < usedAt (m .cs) (byteOf x))) → Distinct ks → length ks ≤ suc places
+        → Sh (settled op places sound s ks) (settledM places m ks)
+    unfolding settled
+    settles [] us d q = h
+    settles (k ∷ ks) us d q = go (leb (length (k ∷ ks)) places) refl
+      where
+        go : (t : Bool) → leb (length (k ∷ ks)) places ≡ t
+            → Sh (pick t (op .setRest s (withCached (op .rest s) (k ∷ ks))) (op .setRest (releaseChunk op s (k - 6) (lengthAt op s k)) (released (op .rest s) ks (lengthAt op s k))))
+            (pick t (model (m .cs) (m .orders) (withCached (m .figs) (k ∷ ks))) (gaveM m ks (byteOf k) (sizeM m k)))
+        go true e = recached s m h (k ∷ ks) (record { used = us; once = d; room = leb-true (length (k ∷ ks)) places e })
+        go false e =
+            let p = us k (List·Memᴰ·head refl) in
+            let n = usedAt (m .cs) (byteOf k) in
+            let u = used-at (m .cs) (byteOf k) (let v = p .1 in omega arith) in
+            subst (λ cs. Sh s (model cs (m .orders) (m .figs)) → ((x : ℕ) → Mem x (k ∷ ks) → (6 ≤ x) × (0 < usedAt cs (byteOf x)))
+            → Sh (op .setRest (releaseChunk op s (k - 6) (lengthAt op s k)) (released (op .rest s) ks (lengthAt op s k))) (gaveM (model cs (m .orders) (m .figs)) ks (byteOf k) (lenAt cs (byteOf k))))
+            (sym (u .is))
+            (λ g v. gave s (u .pre) n (u .post) (m .orders) (m .figs) k ks (u .byte) (p .0) ((v k (List·Memᴰ·head refl)) .1) (λ x i. v x (List·Memᴰ·tail i)) d (omega arith) g)
+            h us
+
+    -- HANDING OUT from a list
+    pub lists-follow : (z : ℕ) → 16 ≤ z → z % 8 ≡ 0 → (r : Found) → Fits (sizeM m) z (searched m z) r → F (fromList op places sound s z r) (fromListM m z r)
+    unfolding fromList
+    lists-follow z z16 z8 (nowhere c) f = record { number = refl; value = refl; compared = refl; after = h }
+    lists-follow z z16 z8 (at x c) f =
+        let r = met-free s m h z x (f .0) in
+        let g = free-at 0 (m .cs) (slot x (r .0)) (r .1) in
+        record {
+          number = refl;
+          value = refl;
+          compared = refl;
+          after = subst (λ cs. Sh s (model cs (m .orders) (m .figs))
+              → Sh (op .setRest (takeChunk op s (x - 6) (lengthAt op s x) z) (counted (op .rest s) (portion (lengthAt op s x) z) (byteOf x + portion (lengthAt op s x) z)))
+              (tookM (model cs (m .orders) (m .figs)) x (lenAt cs (byteOf x)) z))
+              (sym (g .is)) (λ q. took s (g .pre) (r .0) (g .post) (m .orders) (m .figs) x z z16 z8 (g .named) q) h;
+        }
+    lists-follow z z16 z8 lost f = absurd f
+
+    pub serve-follows : (z : ℕ) → 16 ≤ z → z % 8 ≡ 0 → F (serve op places sound s z) (fromCacheM m z (choose (sizeM m) z (m .figs .cached)))
+    unfolding serve fromCache
+    serve-follows z z16 z8 = rw (choose-cached s m h z) (go (choose (sizeM m) z (m .figs .cached)) (choose-picked (sizeM m) z (m .figs .cached)))
+      where
+        go : (c : Chosen) → Picked (sizeM m) z (m .figs .cached) c → F (fromCache op places sound s z c) (fromCacheM m z c)
+        go (one x ks) p = record {
+          number = refl;
+          value = refl;
+          compared = refl;
+          after = recached s m h ks (let q = p .4 in let v = h .cache .room in record { used = λ y i. h .cache .used y (p .2 y i); once = p .3 (h .cache .once); room = omega arith });
+        }
+        go none p =
+            rw (search-same s m h sound z) (lists-follow z z16 z8 (searchM m z) (find-fits (sizeM m) z (searched m z) 0))
+
+    pub handOut-follows : sound s ≡ true → (size : ℕ) → F (handOut op places sound s size) (handOutM m size)
+    unfolding handOut handOutM
+    handOut-follows ok size = rw ok (go (eqb size 0) (ltb 4294967284 size))
+      where
+        go : (a b : Bool)
+            → F (pick a (says 1 0 0 s) (pick b (says 2 0 0 s) (serve op places sound s (roundedOf size))))
+            (pick a (says 1 0 0 m) (pick b (says 2 0 0 m) (fromCacheM m (roundedOf size) (choose (sizeM m) (roundedOf size) (m .figs .cached)))))
+        go true b = record { number = refl; value = refl; compared = refl; after = h }
+        go false true = record { number = refl; value = refl; compared = refl; after = h }
+        go false false = serve-follows (roundedOf size) (r16 size) (r8 size)
+
+    pub live-same : (p : ℕ) → live op places sound s p ≡ liveM m p
+    unfolding live liveM
+    live-same p =
+        let c = few s m h in
+        let n = h .accepted .0 in
+        rw (h .figs, used-walk (op .word s) (op .count s) 0 true (m .cs) (p - 4) (h .legal) (omega arith) (h .tags)) refl
+
+    -- what is taken back is a used chunk, not cached
+    pub live-is : (p : ℕ) → liveM m p ≢ 0 → (byteOf (nameOf (p - 4)) ≡ p - 4) × (0 < usedAt (m .cs) (p - 4)) × (Mem (nameOf (p - 4)) (m .figs .cached) → ⊥) × (4 ≤ p)
+    unfolding liveM
+    live-is p q = go (leb 4 p) refl (listed (nameOf (p - 4)) (m .figs .cached)) refl q
+      where
+        go : (t : Bool) → leb 4 p ≡ t → (v : Bool) → listed (nameOf (p - 4)) (m .figs .cached) ≡ v → pick t (pick v 0 (usedAt (m .cs) (p - 4))) 0 ≢ 0
+            → (byteOf (nameOf (p - 4)) ≡ p - 4) × (0 < usedAt (m .cs) (p - 4)) × (Mem (nameOf (p - 4)) (m .figs .cached) → ⊥) × (4 ≤ p)
+        go false e v g n = absurd (n refl)
+        go true e true g n = absurd (n refl)
+        go true e false g n =
+            let u = used-at (m .cs) (p - 4) n in
+            let t8 = total-8 (u .pre) (legal-front (u .pre) (busy (usedAt (m .cs) (p - 4)) ∷ u .post) (subst Legal (u .is) (h .legal))) in
+            let b = u .byte in
+            (omega arith, omega arith, listed-false (nameOf (p - 4)) (m .figs .cached) g, leb-true 4 p e)
+
+    pub takeBack-follows : sound s ≡ true → (p : ℕ) → F (takeBack op places sound s p) (takeBackM places m p)
+    unfolding takeBack takeBackM
+    takeBack-follows ok p = rw (ok, live-same p, h .figs) (go (eqb (liveM m p) 0) refl)
+      where
+        go : (t : Bool) → eqb (liveM m p) 0 ≡ t
+            → F (pick t (says 4 0 0 s) (says 0 0 0 (settled op places sound s (m .figs .cached ++ nameOf (p - 4) ∷ []))))
+            (pick t (says 4 0 0 m) (says 0 0 0 (settledM places m (m .figs .cached ++ nameOf (p - 4) ∷ []))))
+        go true e = record { number = refl; value = refl; compared = refl; after = h }
+        go false e =
+            let v = live-is p (eqb-false (liveM m p) 0 e) in
+            record {
+              number = refl;
+              value = refl;
+              compared = refl;
+              after = settles (m .figs .cached ++ nameOf (p - 4) ∷ [])
+                  (λ x i. both x (List·Memᴰ·append-cases (m .figs .cached) i) (v .0) (v .1))
+                  (distinct-snoc (m .figs .cached) (nameOf (p - 4)) (h .cache .once) (v .2))
+                  (let y = length-append (m .figs .cached) (nameOf (p - 4) ∷ []) in let z = h .cache .room in omega arith);
+            }
+          where
+            both : (x : ℕ) → Mem x (m .figs .cached) ⊎ Mem x (nameOf (p - 4) ∷ []) → byteOf (nameOf (p - 4)) ≡ p - 4 → 0 < usedAt (m .cs) (p - 4) → (6 ≤ x) × (0 < usedAt (m .cs) (byteOf x))
+            both x (inl i) a b = h .cache .used x i
+            both x (inr i) a b =
+                let q = List·Memᴰ·eq-of-singleton i in
+                (omega arith, subst (λ (t : ℕ). 0 < usedAt (m .cs) t) (sym (ap byteOf q ∙ a)) b)

@@ -1,0 +1,116 @@
+-- Where chunks stand: by name in the free ones, and by byte, on the layout and as the tags tell. Assumes nothing.
+use mathlib.Core.Path.{_≡_, refl, sym, ap, _∙_}
+use mathlib.Core.Logic.{_≢_}
+use mathlib.Core.Bool.{Bool, true, false}
+use mathlib.Core.List.{List, [], _∷_, _++_, List·Memᴰ·head, List·Memᴰ·tail, List·Memᴰ·not-nil}
+use Prim.Native.Nat.{ℕ, zero, suc, _+_, _-_, _*_, _/_, _%_, _≤_, _<_}
+use native.Mathlib.Nat.{not-suc-le-zero, le-of-suc-le-suc, add-zero}
+use native.Mathlib.Omega.{arith}
+use lib.Dec.{eqb, leb}
+use lib.Arith.{digits-mod}
+use lib.ListN.{length}
+use borrow.Author.Tests.{eq-eqb, ne-eqb, eqb-true, leb-true}
+use Rattle.words.specs.Choice.{pick, bit}
+use Rattle.rules.specs.Chunks.{Chunk, free, busy, total, Legal}
+use Rattle.rules.specs.Exact.{Slot, slot, In, frees}
+use Rattle.rules.specs.Tags.{Tags}
+use Rattle.rules.specs.Place.{indexAt, lenAt, usedAt, usedWalk}
+
+-- a free chunk, and the layout around it
+pub record FreeAt (b : ℕ) (cs : List Chunk) (t : Slot) : Type 0 where
+  pub pre : List Chunk
+  pub post : List Chunk
+  pub is : cs ≡ pre ++ free (t .len) ∷ post
+  pub named : t .name ≡ (b + total pre) / 4 + 6
+
+pub free-at : (b : ℕ) (cs : List Chunk) (t : Slot) → In t (frees b cs) → FreeAt b cs t
+unfolding frees
+free-at b [] t m = absurd (List·Memᴰ·not-nil m)
+free-at b (c ∷ cs) t m = go (c .used) refl m (λ i. free-at (b + c .len) cs t i)
+  where
+    deep : FreeAt (b + c .len) cs t → FreeAt b (c ∷ cs) t
+    deep r = record {
+      pre = c ∷ r .pre;
+      post = r .post;
+      is = ap (λ (u : List Chunk). c ∷ u) (r .is);
+      named = r .named ∙ ap (λ (n : ℕ). n / 4 + 6) (omega arith);
+    }
+
+    go : (u : Bool) → c .used ≡ u → In t (pick u (frees (b + c .len) cs) (slot (b / 4 + 6) (c .len) ∷ frees (b + c .len) cs))
+        → (In t (frees (b + c .len) cs) → FreeAt (b + c .len) cs t) → FreeAt b (c ∷ cs) t
+    go true e i f = deep (f i)
+    go false e (List·Memᴰ·head q) f = record {
+      pre = [];
+      post = cs;
+      is = λ j. record { len = (sym (ap (λ (s : Slot). s .len) q)) j; used = e j } ∷ cs;
+      named = ap (λ (s : Slot). s .name) q ∙ ap (λ (n : ℕ). n / 4 + 6) (sym (add-zero b));
+    }
+    go false e (List·Memᴰ·tail i) f = deep (f i)
+
+pub len-at : (pre : List Chunk) (c : Chunk) (post : List Chunk) (b : ℕ) → Legal pre → b ≡ total pre → lenAt (pre ++ c ∷ post) b ≡ c .len
+unfolding lenAt
+len-at [] c post b l e = rw (eq-eqb b 0 e) refl
+len-at (d ∷ pre) c post b l e = let a = l .0 in rw (ne-eqb b 0 (omega arith)) (len-at pre c post (b - d .len) (l .2) (omega arith))
+
+pub index-at : (pre : List Chunk) (c : Chunk) (post : List Chunk) (b : ℕ) → Legal pre → b ≡ total pre → indexAt (pre ++ c ∷ post) b ≡ length pre
+unfolding indexAt
+index-at [] c post b l e = rw (eq-eqb b 0 e) refl
+index-at (d ∷ pre) c post b l e = let a = l .0 in rw (ne-eqb b 0 (omega arith)) (ap suc (index-at pre c post (b - d .len) (l .2) (omega arith)))
+
+pub header-len : (h n u l : ℕ) → n % 8 ≡ 0 → u ≤ 1 → l ≤ 1 → h ≡ n + 2 * u + l → h / 4 * 4 ≡ n
+header-len h n u l n8 hu hl e = let k : h / 4 ≡ 2 * (n / 8) = omega arith in omega arith
+
+pub header-used : (h n u l : ℕ) → n % 8 ≡ 0 → u ≤ 1 → l ≤ 1 → h ≡ n + 2 * u + l → h / 2 % 2 ≡ u
+header-used h n u l n8 hu hl e =
+    let k : h / 2 ≡ 2 * (n / 8) * 2 + u = omega arith in
+    ap (λ (x : ℕ). x % 2) k ∙ digits-mod (2 * (n / 8)) (omega arith)
+
+pub bit-le : (b : Bool) → bit b ≤ 1
+bit-le true = omega arith
+bit-le false = omega arith
+
+pub used-walk : (f : ℕ → ℕ) (fuel e : ℕ) (l : Bool) (cs : List Chunk) (b : ℕ) → Legal cs → length cs < fuel → Tags f e l cs → usedWalk f fuel e b ≡ usedAt cs b
+unfolding usedWalk usedAt
+used-walk f zero e l cs b g h t = absurd (not-suc-le-zero h)
+used-walk f (suc fuel) e l [] b g h t =
+    let k = bit-le l in
+    let z : f (e / 4) / 4 * 4 ≡ 0 = header-len (f (e / 4)) 0 1 (bit l) refl (omega arith) k (let q : f (e / 4) ≡ 2 + bit l = t in omega arith) in
+    rw z refl
+used-walk f (suc fuel) e l (c ∷ cs) b g h t =
+    let kl = bit-le l in
+    let ku = bit-le (c .used) in
+    let n16 : 16 ≤ c .len = g .0 in
+    let z : f (e / 4) / 4 * 4 ≡ c .len = header-len (f (e / 4)) (c .len) (bit (c .used)) (bit l) (g .1) ku kl (t .0) in
+    let u : f (e / 4) / 2 % 2 ≡ bit (c .used) = header-used (f (e / 4)) (c .len) (bit (c .used)) (bit l) (g .1) ku kl (t .0) in
+    rw (z, u, ne-eqb (c .len) 0 (omega arith), used-walk f fuel (e + c .len) (c .used) cs (b - c .len) (g .2) (le-of-suc-le-suc h) (t .2)) (go (c .used))
+  where
+    go : (v : Bool) → pick (eqb b 0) (pick (eqb (bit v) 0) 0 (c .len)) (pick (leb (c .len) b) (usedAt cs (b - c .len)) 0)
+        ≡ pick (eqb b 0) (pick v (c .len) 0) (pick (leb (c .len) b) (usedAt cs (b - c .len)) 0)
+    go true = refl
+    go false = refl
+
+-- a used chunk, and the layout around it
+pub record UsedAt (cs : List Chunk) (b n : ℕ) : Type 0 where
+  pub pre : List Chunk
+  pub post : List Chunk
+  pub is : cs ≡ pre ++ busy n ∷ post
+  pub byte : b ≡ total pre
+
+pub used-at : (cs : List Chunk) (b : ℕ) → usedAt cs b ≢ 0 → UsedAt cs b (usedAt cs b)
+unfolding usedAt
+used-at [] b h = absurd (h refl)
+used-at (c ∷ cs) b h = go (eqb b 0) refl (c .used) refl (leb (c .len) b) refl h (λ k. used-at cs (b - c .len) k)
+  where
+    r : ℕ
+    r = usedAt cs (b - c .len)
+
+    go : (t : Bool) → eqb b 0 ≡ t → (u : Bool) → c .used ≡ u → (v : Bool) → leb (c .len) b ≡ v → pick t (pick u (c .len) 0) (pick v r 0) ≢ 0
+        → (r ≢ 0 → UsedAt cs (b - c .len) r) → UsedAt (c ∷ cs) b (pick t (pick u (c .len) 0) (pick v r 0))
+    go true e true d v g k f = record { pre = []; post = cs; is = λ i. record { len = c .len; used = d i } ∷ cs; byte = eqb-true b 0 e }
+    go true e false d v g k f = absurd (k refl)
+    go false e u d false g k f = absurd (k refl)
+    go false e u d true g k f =
+        let q = f k in
+        let h = leb-true (c .len) b g in
+        let y = q .byte in
+        record { pre = c ∷ q .pre; post = q .post; is = ap (λ (x : List Chunk). c ∷ x) (q .is); byte = omega arith }
