@@ -1,4 +1,5 @@
 -- `audit::figures_right` meets its contract: each test is a part of what the figures have to fit.
+use Prim.Native.Nat.{_≤_}
 use native.Mathlib.Omega.{arith}
 use borrow.Author.Needs.{needs}
 use borrow.Author.Tests.{le-leb, leb-true}
@@ -51,7 +52,7 @@ returns-9 c = refused (λ p. omega arith)
 returns-10 : tie.Need-returns-10
 returns-10 c = (
       (λ e.
-      let h = leb-true _ _ e in
+      let h : c .before .before .before .before .before .before .before .before .before .before .before .before .before .before .args .top ≤ c .before .before .before .before .before .before .before .before .before .before .before .before .before .before .args .f .high = leb-true _ _ e in
       record { words = omega arith; least = omega arith; most = omega arith; odd = omega arith; inUse = omega arith; peak = omega arith; high = omega arith; heap = omega arith; eights = omega arith; end = h }),
       (λ p. le-leb _ _ (p .end)))
 
