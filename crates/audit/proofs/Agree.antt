@@ -15,6 +15,7 @@ use Rattle.words.specs.declared.names.Link.{Link}
 use Rattle.words.specs.Links.{narrow}
 use Rattle.words.specs.Sizes.{classOf}
 use Rattle.words.proofs.Laws.Numbers.{length-numbers}
+use Rattle.words.proofs.Laws.Sizes.{class-below}
 use Rattle.rules.specs.Lists.{Mem, Seg}
 use Rattle.rules.specs.Chunks.{Legal}
 use Rattle.rules.specs.Exact.{Slot, slot, In, frees}
@@ -31,7 +32,7 @@ use Rattle.audit.proofs.Counting.{same-bit, diff-bit, none-or-some, cha
 use Rattle.audit.proofs.Tilings.{all, backs, all-backs, sum-same, end-under, under-end}
 use Rattle.audit.proofs.Tilings as tilings
 use Rattle.audit.proofs.Sound.{ListRight, SoundPair}
-use Rattle.audit.proofs.tiling.Places.{free-in, links-once, class-small}
+use Rattle.audit.proofs.tiling.Places.{free-in, links-once}
 
 -- COUNTS AND MEMBERS
 mem-count : (x : ℕ) (xs : List ℕ) → Mem x xs → 0 < count x xs
@@ -142,7 +143,7 @@ module _ (prev next : List Link) (f : Figures) (ws : List ℕ) where
           lists = λ k q. right k (decLe (suc k) 6) q .0;
           exact = record {
             listed = λ x k i.
-                let r = right (classOf k) (decLe (suc (classOf k)) 6) (class-small k) in
+                let r = right (classOf k) (decLe (suc (classOf k)) 6) (class-below k) in
                 let a = free-links x k 0 cs (t .0) i in
                 let b = r .1 x in
                 count-mem x (m .orders (classOf k)) (omega arith);

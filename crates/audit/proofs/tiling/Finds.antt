@@ -9,12 +9,13 @@ use lib.ListN.{length, getD}
 use lib.Dec.{ltb, eqb}
 use borrow.Author.Tests.{lt-ltb, le-ltb, lt-leb, eq-eqb, ne-eqb, eqb-true}
 use Rattle.words.specs.Choice.{bit}
+use Rattle.words.proofs.Laws.Choice.{bit-small}
 use Rattle.audit.specs.declared.tiling.Seen.{Seen}
 use Rattle.audit.specs.declared.tiling.Seen.the-variants.{Bad, Free, Used}
 use Rattle.audit.specs.Layout.{Chunk, free, used, pick, Tiles}
 use Rattle.audit.specs.Walk.{seenAt, onto, chunkFrom, chunkOf, chunkIn}
 use Rattle.audit.proofs.Counting.{le-or-lt}
-use Rattle.audit.proofs.tiling.Headers.{pick-some, pick-is, bit-small, free-room, used-room, free-seen, used-seen}
+use Rattle.audit.proofs.tiling.Headers.{pick-some, pick-is, free-room, used-room, free-seen, used-seen}
 
 -- THE LOOP'S INVARIANT: what is left to search from here is the whole search
 pub record Seeking (ws : List ℕ) (w at left : ℕ) : Type 0 where

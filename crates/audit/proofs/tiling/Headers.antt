@@ -11,6 +11,7 @@ use native.Mathlib.Omega.{arith}
 use lib.ListN.{length, getD}
 use borrow.Author.Tests.{lt-ltb, le-leb, lt-leb, eq-eqb, ne-eqb, ltb-true, leb-true, leb-false, eqb-true, eqb-false, not-true}
 use Rattle.words.specs.Choice.{bit}
+use Rattle.words.proofs.Laws.Choice.{bit-small}
 use Rattle.audit.specs.declared.tiling.Seen.{Seen}
 use Rattle.audit.specs.declared.tiling.Seen.the-variants.{Bad, Free, Used}
 use Rattle.audit.specs.Layout.{pick, Room, UsedAt, FreeAt}
@@ -37,14 +38,10 @@ used-not-bad n e = let z : _≡_ {A = ℕ} 0 1 = cc in omega arith
 pub free-not-used : (m n : ℕ) → Free m ≡ Used n → ⊥
 free-not-used m n e = let z : _≡_ {A = ℕ} 0 1 = cc in omega arith
 
--- a test as a number
+-- a test as a number is not 0
 pub bit-true : (l : Bool) → (bit l ≡ 0 → ⊥) → l ≡ true
 bit-true true n = refl
 bit-true false n = absurd (n refl)
-
-pub bit-small : (b : Bool) → bit b ≤ 1
-bit-small true = omega arith
-bit-small false = omega arith
 
 -- what is known of a header that was not refused
 pub record Passed (ws : List ℕ) (at left : ℕ) (y : Seen) : Type 0 where

@@ -6,17 +6,17 @@ use mathlib.Core.List.{List, [], _∷_}
 use mathlib.Core.Bool.{Bool, true, false}
 use native.Mathlib.Omega.{arith}
 use lib.ListN.{length}
-use lib.Dec.{ltb, eqb, leb}
+use lib.Dec.{ltb, eqb}
 use borrow.Author.Tests.{lt-ltb, le-ltb, eq-eqb, eqb-true}
 use Rattle.words.specs.Choice.{bit}
-use Rattle.words.specs.Choice as words
 use Rattle.words.specs.Sizes.{classOf}
+use Rattle.words.proofs.Laws.Choice.{bit-small}
 use Rattle.audit.specs.declared.tiling.Seen.the-variants.{Bad, Free, Used}
 use Rattle.audit.specs.Layout.{Chunk, free, used, pick, Tiles, freeLinks}
 use Rattle.audit.specs.Walk.{chunkIn}
 use Rattle.audit.specs.Rings.{count}
 use Rattle.audit.proofs.Counting.{same-or, same-bit, none-or-some, true-or-false}
-use Rattle.audit.proofs.tiling.Headers.{pick-some, pick-is, free-not-bad, free-not-used, bit-small}
+use Rattle.audit.proofs.tiling.Headers.{pick-some, pick-is, free-not-bad, free-not-used}
 use Rattle.audit.proofs.tiling.Walks.{one-more}
 
 -- COUNTS of a list with one element more, where a test holds
@@ -103,13 +103,3 @@ links-once (free n ∷ cs) ws c at l t x =
     (λ e. rw e r)
     (true-or-false (eqb (classOf n) c))
 links-once (used n ∷ cs) ws c at l t x = links-once cs ws c (at + n / 4) true (t .1) x
-
--- a class is below 6
-pick-small : (b : Bool) (x y : ℕ) → x < 6 → y < 6 → words.pick b x y < 6
-pick-small true x y p q = p
-pick-small false x y p q = q
-
-pub class-small : (n : ℕ) → classOf n < 6
-unfolding classOf
-class-small n =
-    pick-small (leb 32 n) _ 0 (pick-small (leb 64 n) _ 1 (pick-small (leb 128 n) _ 2 (pick-small (leb 256 n) _ 3 (pick-small (leb 512 n) 5 4 (omega arith) (omega arith)) (omega arith)) (omega arith)) (omega arith)) (omega arith)

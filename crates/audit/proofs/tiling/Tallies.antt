@@ -10,6 +10,7 @@ use lib.Seq.{getD-set-same, getD-set-other}
 use lib.Dec.{eqb}
 use Rattle.words.specs.Choice.{bit}
 use Rattle.words.specs.Sizes.{classOf}
+use Rattle.words.proofs.Laws.Sizes.{class-below}
 use Rattle.audit.specs.declared.tiling.Seen.the-variants.{Bad, Free, Used}
 use Rattle.audit.specs.declared.tiling.Tally.{Tally}
 use Rattle.audit.specs.Layout.{Chunk, pick, Tiles, freeLinks}
@@ -17,7 +18,6 @@ use Rattle.audit.specs.Walk.{Broken, Whole, seenAt, walk, tiledBy, talli
 use Rattle.audit.proofs.Counting.{same-or, same-bit, diff-bit}
 use Rattle.audit.proofs.tiling.Headers.{free-room, used-room}
 use Rattle.audit.proofs.tiling.Walks.{Going, going-bad, going-free, going-used, going-guard, going-no-guard, tiled-empty, tiled-complete}
-use Rattle.audit.proofs.tiling.Places.{class-small}
 
 pub record Tallying (ws : List ℕ) (at left sum top : ℕ) (frees : List ℕ) : Type 0 where
   pub here : at < length ws
@@ -55,7 +55,7 @@ tells-broken ws t e b c i = b c i ∙ rw e refl
 module _ (ws : List ℕ) (at left sum top : ℕ) (frees : List ℕ) (t : Tallying ws at left sum top frees) where
   pub tally-room : (k n : ℕ) → k ≡ classOf n → (k < 6) × (getD frees k 0 ≤ at)
   tally-room k n e =
-      let i : k < 6 = omega (arith, e, class-small n) in
+      let i : k < 6 = omega (arith, e, class-below n) in
       (i, t .each k i .few)
 
   module _ (i : at + 1 < length ws) where

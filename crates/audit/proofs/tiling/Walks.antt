@@ -12,11 +12,12 @@ use lib.Dec.{ltb, eqb}
 use borrow.Author.Tests.{lt-ltb, le-ltb, eq-eqb, ne-eqb, ltb-false, eqb-true}
 use Rattle.words.specs.Choice.{bit}
 use Rattle.words.specs.Sizes.{classOf}
+use Rattle.words.proofs.Laws.Choice.{bit-small}
 use Rattle.audit.specs.declared.tiling.Seen.{Seen}
 use Rattle.audit.specs.declared.tiling.Seen.the-variants.{Bad, Free, Used}
 use Rattle.audit.specs.Layout.{Chunk, free, used, pick, Tiles, usedSum, usedEnd, freeLinks}
 use Rattle.audit.specs.Walk.{Tiled, Broken, Whole, seenAt, turn, walk, tiledBy}
-use Rattle.audit.proofs.tiling.Headers.{pick-some, pick-is, bit-small, free-room, used-room, seen-free, seen-used, free-seen, used-seen}
+use Rattle.audit.proofs.tiling.Headers.{pick-some, pick-is, free-room, used-room, seen-free, seen-used, free-seen, used-seen}
 
 pub broken-not-whole : (s t m : ℕ) → Broken ≡ Whole s t m → ⊥
 broken-not-whole s t m e = let z : _≡_ {A = ℕ} 0 1 = cc in omega arith
