@@ -6,13 +6,11 @@ ghost use mathlib.Core.Bool.{true};
 ghost use mathlib.Core.List.{[], _∷_, _++_};
 ghost use Prim.Native.Nat.{_-_, _*_, _≤_, _%_};
 ghost use lib.ListN.{length};
-ghost use Rattle.words.specs.Links.{narrow};
 ghost use Rattle.rules.specs.Rules.{Outcome, fromList, firstFit, serve, settled, live};
 ghost use Rattle.rules.specs.Steps.{oneChunk};
-ghost use Rattle.rules.specs.Making.{make};
-ghost use Rattle.rules.specs.Demands.{hand, back};
 ghost use Rattle.heap.specs.Seen.{seen, base};
 ghost use Rattle.audit.specs.Shown.{cachedOf};
+ghost use Rattle.heap.specs.Promises.{Makes, HandsOut, TakesBack};
 ghost use Rattle.heap.specs.Answer.{outcome, soundAt, cacheServes, Served};
 use super::live::used_length;
 use super::merge::set_free_chunk_hdr_ftr;
@@ -64,7 +62,7 @@ impl Record {
 
     // Makes a heap of the whole slice: one free chunk and the guard. Refuses a length that is not odd, or not 5 to 65,529.
     pub fn make(heap: &mut [u32]) -> Out
-        ensures { λ r. ⌜ outcome (r .answer) (seen (r .rec) (now (heap .exit))) ≡ make narrow 65529 (now (heap .entry)) ⌝ }
+        ensures { λ r. ⌜ Makes (now (heap .entry)) r (now (heap .exit)) ⌝ }
     {
         let n = heap.len();
         if n < Self::LEAST_WORDS {
@@ -82,7 +80,7 @@ impl Record {
 
     // Hands out a payload of at least `size` bytes.
     pub fn hand_out(self, heap: &mut [u32], size: u32) -> Out
-        ensures { λ r. ⌜ outcome (r .answer) (seen (r .rec) (now (heap .exit))) ≡ hand base 65529 1 (seen self (now (heap .entry))) size ⌝ }
+        ensures { λ r. ⌜ HandsOut self (now (heap .entry)) size r (now (heap .exit)) ⌝ }
     {
         if size == 0 {
             return Out { answer: Answer::ZeroSize, rec: self };
@@ -100,7 +98,7 @@ impl Record {
 
     // Takes back the payload that begins at this offset.
     pub fn take_back(self, heap: &mut [u32], payload: ByteOffset) -> Out
-        ensures { λ r. ⌜ outcome (r .answer) (seen (r .rec) (now (heap .exit))) ≡ back base 65529 1 (seen self (now (heap .entry))) (payload .0) ⌝ }
+        ensures { λ r. ⌜ TakesBack self (now (heap .entry)) (payload .0) r (now (heap .exit)) ⌝ }
     {
         let sound = self.audit(heap);
         if !sound {
