@@ -70,10 +70,11 @@ pub demand-1-making-refused : (ws vs : List ℕ) (o : Out)
     × (number (o .answer) ≢ 0 → (number (o .answer) ≡ 6) × (o .rec ≡ emptyRecord) × (vs ≡ ws))
 demand-1-making-refused ws vs o e =
     let m = narrow-making 1 ws in
-    let n : number (o .answer) ≡ make narrow 65529 ws .number = ap (λ (q : Outcome State). q .number) e in
-    ((λ z. m .0 .0 (sym n ∙ z), λ a. n ∙ m .0 .1 a),
-    λ h. let q = m .2 (λ z. h (n ∙ z)) in
-    let s = seen-same (o .rec) emptyRecord vs ws (ap (λ (q : Outcome State). q .after) e ∙ q .1) in (n ∙ q .0, s .0, s .1))
+    let n : number (o .answer) ≡ make narrow 65529 ws .number = ap (λ (q : Outcome State). q .number) e in (
+      (λ z. m .0 .0 (sym n ∙ z), λ a. n ∙ m .0 .1 a),
+      λ h. let q = m .2 (λ z. h (n ∙ z)) in
+          let s = seen-same (o .rec) emptyRecord vs ws (ap (λ (q : Outcome State). q .after) e ∙ q .1) in (n ∙ q .0, s .0, s .1),
+    )
 
 pub demand-1-determined : (r : Record) (ws vs us : List ℕ) (k : Request) (o p : Out)
     → Calls k r ws o vs
@@ -122,9 +123,10 @@ module _ (r : Record) (ws vs : List ℕ) (n : ℕ) (o : Out) where
   -- 5 exactly for a pair that is not sound
   pub demand-2-damaged-exact : (HandsOut r ws n o vs → Allowable n → Iff (number (o .answer) ≡ 5) (SoundIn r ws → ⊥))
       × (TakesBack r ws n o vs → Iff (number (o .answer) ≡ 5) (SoundIn r ws → ⊥))
-  demand-2-damaged-exact =
-      (λ e a. let q = ap (λ (q : Outcome State). q .number) e in (λ z. ours .damaged .0 (seen r ws) n a .0 (sym q ∙ z), λ z. q ∙ ours .damaged .0 (seen r ws) n a .1 z),
-      λ e. let q = ap (λ (q : Outcome State). q .number) e in (λ z. ours .damaged .1 (seen r ws) n .0 (sym q ∙ z), λ z. q ∙ ours .damaged .1 (seen r ws) n .1 z))
+  demand-2-damaged-exact = (
+    λ e a. let q = ap (λ (q : Outcome State). q .number) e in (λ z. ours .damaged .0 (seen r ws) n a .0 (sym q ∙ z), λ z. q ∙ ours .damaged .0 (seen r ws) n a .1 z),
+    λ e. let q = ap (λ (q : Outcome State). q .number) e in (λ z. ours .damaged .1 (seen r ws) n .0 (sym q ∙ z), λ z. q ∙ ours .damaged .1 (seen r ws) n .1 z),
+  )
 
   module _ (m : Model) (h : ShowsIn r ws m) where
     -- 3 exactly when the cached chunk doesn't serve and no listed free chunk reaches the threshold
@@ -187,9 +189,9 @@ demand-3-two-runs ws ws₀ ws₁ us us₀ us₁ o p q t es fs bs cs l e d z s x 
     let ho = demand-2-made-sound ws ws₀ o e z in
     let hp = subst (λ (n : ℕ). ShowsIn (p .rec) us₀ (madeM n)) (sym l) (demand-2-made-sound us us₀ p d zp) in
     let r = ours .runs es fs (seen (o .rec) ws₀) (seen (p .rec) us₀) (madeM (length ws)) s ho hp (a .0) (b .0) in
-    let same : Same base 65529 1 (seen q ws₁) (seen t us₁) = 
-        subst (λ (v : State). Same base 65529 1 v (seen t us₁)) (sym (a .2))
-        (subst (λ (v : State). Same base 65529 1 (run (acts base 65529 1) es (seen (o .rec) ws₀)) v) (sym (b .2)) (r .2)) in
+    let same : Same base 65529 1 (seen q ws₁) (seen t us₁) =
+    subst (λ (v : State). Same base 65529 1 v (seen t us₁)) (sym (a .2))
+    (subst (λ (v : State). Same base 65529 1 (run (acts base 65529 1) es (seen (o .rec) ws₀)) v) (sym (b .2)) (r .2)) in
     (a .1 ∙ r .0, a .1 ∙ r .1 ∙ sym (b .1), records-same q t ws₁ us₁ same, same)
 
 pub demand-3-payload-kept : (r : Record) (ws vs : List ℕ) (k : Request) (o : Out) (i : ℕ)

@@ -48,11 +48,12 @@ unfolding run answers
 history done = (tt, refl, refl)
 history {r} {q} {ws} {vs} (calls {us = us} {es = es} {bs = bs} {k = k} o e x) =
     let h = history x in
-    let s = after-call r ws us k o e in
-    (subst (λ (v : State). Allowed (acts base 65529 1) es v) s (h .0),
-    ap (λ (t : List rule.Answer). said (o .answer) ∷ t) (h .1) ∙ ap (λ (v : State). said (o .answer) ∷ answers (acts base 65529 1) es v) s
-    ∙ ap (λ (a : rule.Answer). a ∷ answers (acts base 65529 1) es (call base 65529 1 k (seen r ws) .after)) (answer-call r ws us k o e),
-    h .2 ∙ ap (run (acts base 65529 1) es) s)
+    let s = after-call r ws us k o e in (
+      subst (λ (v : State). Allowed (acts base 65529 1) es v) s (h .0),
+      ap (λ (t : List rule.Answer). said (o .answer) ∷ t) (h .1) ∙ ap (λ (v : State). said (o .answer) ∷ answers (acts base 65529 1) es v) s
+          ∙ ap (λ (a : rule.Answer). a ∷ answers (acts base 65529 1) es (call base 65529 1 k (seen r ws) .after)) (answer-call r ws us k o e),
+      h .2 ∙ ap (run (acts base 65529 1) es) s,
+    )
 history (stores l x) = let h = history x in ((l, h .0), h .1, h .2)
 
 -- the arrays are six long
