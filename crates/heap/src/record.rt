@@ -175,12 +175,12 @@ impl Record {
         self
     }
 
-    // The counters after a chunk of n bytes left the cache for a list, and the chunk l came into it.
-    pub(crate) fn count_out(mut self, n: u32, l: Link) -> Record
-        ensures { λ r. ⌜ r ≡ countedOut self n l ⌝ }
+    // The counters after a chunk of n bytes left the cache for a list, and a newer one came into it.
+    pub(crate) fn count_out(mut self, n: u32, newer: Link) -> Record
+        ensures { λ r. ⌜ r ≡ countedOut self n newer ⌝ }
     {
         self.in_use = less(self.in_use, n);
-        self.cached = l;
+        self.cached = newer;
         self
     }
 }
