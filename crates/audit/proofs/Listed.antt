@@ -1,7 +1,7 @@
 -- The class lists: a mirrored ring of the right length, each of whose links names a free chunk of its class, has exactly these.
 --     list-right                    by the pigeonhole
 --     right-ring, right-listed      and back
-use Prim.Native.Nat.{ℕ, _+_, _-_, _/_, _≤_, _<_}
+use Prim.Native.Nat.{ℕ, _+_, _-_, _≤_, _<_}
 use mathlib.Core.Path.{_≡_, refl, sym, ap, _∙_, subst, subst₂}
 use mathlib.Core.Logic.{⊎-elim}
 use mathlib.Core.List.{List}

@@ -11,7 +11,7 @@ use Rattle.rules.specs.Chunks.{Chunk, free, busy, total, Legal, Calm, usedHead,
 use Rattle.rules.specs.Chunks as rules
 use Rattle.rules.specs.Tags.{Tags}
 use Rattle.rules.specs.Sound.{Under}
-use Rattle.audit.specs.Layout.{Tiles, FreeAt, UsedAt, Room, usedSum, usedEnd}
+use Rattle.audit.specs.Layout.{Tiles, Room, usedSum, usedEnd}
 use Rattle.audit.specs.Layout as words
 
 -- a chunk as the rules have it, and back

@@ -1,5 +1,5 @@
 -- The tests together: each holds of a sound pair, and where all hold it is sound.
-use Prim.Native.Nat.{ℕ, _+_, _<_}
+use Prim.Native.Nat.{ℕ, _<_}
 use mathlib.Core.Path.{_≡_, sym, ap, _∙_, subst, subst₂}
 use mathlib.Core.List.{List}
 use mathlib.Core.Bool.{true}
@@ -9,8 +9,8 @@ use Rattle.words.specs.declared.names.Link.{Link}
 use Rattle.audit.specs.declared.Figures.{Figures}
 use Rattle.audit.specs.declared.tiling.Tally.{Tally}
 use Rattle.audit.specs.declared.rings.Followed.the-variants.{Long}
-use Rattle.audit.specs.Layout.{Chunk, Tiles, usedSum, usedEnd}
-use Rattle.audit.specs.Walk.{Broken, Whole, tiledBy, tallied, cacheRightᵇ, FiguresFit}
+use Rattle.audit.specs.Layout.{usedSum, usedEnd}
+use Rattle.audit.specs.Walk.{Broken, tiledBy, tallied, cacheRightᵇ, FiguresFit}
 use Rattle.audit.specs.Rings.{count, nextOf, chained, listOf}
 use Rattle.audit.specs.Window.{Ringed, Listed}
 use Rattle.audit.proofs.tiling.Walks.{Found, broken-not-whole, tiled-sound, tiled-complete}

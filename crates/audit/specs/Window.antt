@@ -1,7 +1,7 @@
 -- THE LISTS AGAINST A WINDOW of the words, as the code takes them: no part of what a sound heap is.
 use Prim.Native.Nat.{ℕ, zero, suc, _+_, _-_, _*_, _/_, _%_, _≤_, _<_}
 use mathlib.Core.Path.{_≡_}
-use mathlib.Core.List.{List, [], _∷_}
+use mathlib.Core.List.{List}
 use mathlib.Core.Bool.{Bool, true, false}
 use lib.ListN.{length, getD, set}
 use lib.Dec.{ltb, leb, eqb}

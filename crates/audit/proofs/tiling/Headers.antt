@@ -2,7 +2,7 @@
 --     passed       what is known of a header that was not refused
 --     seen-free    a free chunk that is seen is one, and free-seen back; the same of used ones
 --     free-room    a chunk that is seen ends before the guard
-use Prim.Native.Nat.{ℕ, _+_, _-_, _*_, _/_, _%_, _≤_, _<_}
+use Prim.Native.Nat.{ℕ, _+_, _-_, _/_, _%_, _≤_, _<_}
 use mathlib.Core.Path.{_≡_, refl, sym, ap, _∙_}
 use mathlib.Core.Logic.{_⊎_, ⊎-elim, inl, inr}
 use mathlib.Core.List.{List}

@@ -1,17 +1,16 @@
 -- The chunks of a layout by their words: what a search finds is one of its free or used chunks, and each of these is found.
-use Prim.Native.Nat.{ℕ, zero, suc, _+_, _-_, _*_, _/_, _%_, _≤_, _<_}
-use mathlib.Core.Path.{_≡_, refl, sym, ap, _∙_}
+use Prim.Native.Nat.{ℕ, _+_, _-_, _/_, _≤_, _<_}
+use mathlib.Core.Path.{_≡_, refl, sym, ap}
 use mathlib.Core.Logic.{_⊎_, ⊎-elim, inl, inr}
 use mathlib.Core.List.{List, [], _∷_}
 use mathlib.Core.Bool.{Bool, true, false}
 use native.Mathlib.Omega.{arith}
 use lib.ListN.{length}
-use lib.Dec.{ltb, eqb}
+use lib.Dec.{eqb}
 use borrow.Author.Tests.{lt-ltb, le-ltb, eq-eqb, eqb-true}
-use Rattle.words.specs.Choice.{bit}
 use Rattle.words.specs.Sizes.{classOf}
 use Rattle.words.proofs.Laws.Choice.{bit-small}
-use Rattle.audit.specs.declared.tiling.Seen.the-variants.{Bad, Free, Used}
+use Rattle.audit.specs.declared.tiling.Seen.the-variants.{Free}
 use Rattle.audit.specs.Layout.{Chunk, free, used, pick, Tiles, freeLinks}
 use Rattle.audit.specs.Walk.{chunkIn}
 use Rattle.audit.specs.Rings.{count}

@@ -17,7 +17,7 @@ use Rattle.audit.specs.Layout.{Chunk, pick, Tiles, freeLinks}
 use Rattle.audit.specs.Walk.{Broken, Whole, seenAt, walk, tiledBy, tallied}
 use Rattle.audit.proofs.Counting.{same-or, same-bit, diff-bit}
 use Rattle.audit.proofs.tiling.Headers.{free-room, used-room}
-use Rattle.audit.proofs.tiling.Walks.{Going, going-bad, going-free, going-used, going-guard, going-no-guard, tiled-empty, tiled-complete}
+use Rattle.audit.proofs.tiling.Walks.{Going, going-bad, going-free, going-used, going-guard, going-no-guard, tiled-complete}
 
 pub record Tallying (ws : List ℕ) (at left sum top : ℕ) (frees : List ℕ) : Type 0 where
   pub here : at < length ws

@@ -2,7 +2,7 @@
 --     fits-..       the test's three ways, by the wrapping differences that the code takes
 --     fits-in       in the window the test is whether the link names a free chunk of the class
 --     Showing       every listed link below `at` names a free chunk of its class
-use Prim.Native.Nat.{ℕ, zero, suc, _+_, _-_, _*_, _/_, _%_, _^_, _≤_, _<_}
+use Prim.Native.Nat.{ℕ, zero, suc, _+_, _-_, _%_, _^_, _≤_, _<_}
 use mathlib.Core.Path.{_≡_, refl, sym, ap, _∙_}
 use mathlib.Core.Logic.{⊎-elim}
 use mathlib.Core.List.{List}

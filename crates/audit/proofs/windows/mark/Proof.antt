@@ -57,7 +57,7 @@ loop-less : tie.Need-loop-less Inv-loop μ-loop
 loop-less c = let o = (on-free _ _ _ (c .before .before .before .before .before .before .before .before .before .before .loop .inv .0 .standing) (c .before .before .before .before .before .before .before .before .before .loop-test .taken) _ (sym (c .before .before .before .before .before .before .before .known-at .ensures) ∙ c .before .before .before .before .before .seen .given .1)) .0 in omega (arith, o .fit, o .span)
 
 loop-again : tie.Need-loop-again Inv-loop μ-loop
-loop-again c = 
+loop-again c =
     let o = (on-free _ _ _ (c .before .before .before .before .before .before .before .before .before .before .loop .inv .0 .standing) (c .before .before .before .before .before .before .before .before .before .loop-test .taken) _ (sym (c .before .before .before .before .before .before .before .known-at .ensures) ∙ c .before .before .before .before .before .seen .given .1)) in
     (rw (c .before .before .put-mark .ensures) (marking-free _ _ _ _ _ (c .before .before .before .before .before .before .before .before .before .before .loop .inv .0) _ _ (o .0) (o .1) (c .before .before .before .before .before .before .before .before .if1 .left)), c .before .before .put-mark .kept .0 ∙ c .before .before .before .before .before .before .before .before .before .before .loop .inv .1)
 
