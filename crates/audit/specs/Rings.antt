@@ -22,6 +22,7 @@ count x (y ∷ ys) = bit (eqb x y) + count x ys
 unfoldable pub nextOf : List Link → List ℕ → ℕ → ℕ
 nextOf next ws k = nodeLink narrow links.next (numbers next) ws k
 
+-- and the one before it
 unfoldable pub prevOf : List Link → List ℕ → ℕ → ℕ
 prevOf prev ws k = nodeLink narrow links.prev (numbers prev) ws k
 

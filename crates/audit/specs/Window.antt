@@ -19,6 +19,7 @@ use Rattle.audit.specs.Rings.{count, nextOf, listOf}
 unfoldable pub nibble : ℕ → ℕ → ℕ
 nibble v d = pick (ltb (d % 16) 8) (v % 16) (v / 16)
 
+-- a byte with the half of word d changed
 unfoldable pub withNibble : ℕ → ℕ → ℕ
 withNibble v d = pick (ltb (d % 16) 8) (v / 16 * 16 + (d % 8 + 1)) ((d % 8 + 1) * 16 + v % 16)
 
@@ -26,9 +27,11 @@ withNibble v d = pick (ltb (d % 16) 8) (v / 16 * 16 + (d % 8 + 1)) ((d % 8 + 1) 
 unfoldable pub markedᵇ : List ℕ → ℕ → Bool
 markedᵇ ms d = eqb (nibble (getD ms (d / 16) 0) d) (d % 8 + 1)
 
+-- the marks with word d marked
 unfoldable pub withMark : List ℕ → ℕ → List ℕ
 withMark ms d = set ms (d / 16) (withNibble (getD ms (d / 16) 0) d)
 
+-- what is seen is a free chunk
 unfoldable pub isFree : Seen → Bool
 isFree Bad = false
 isFree (Free n) = true
@@ -74,6 +77,7 @@ freeSeen c Bad = false
 freeSeen c (Free n) = eqb (classOf n) c
 freeSeen c (Used n) = false
 
+-- link k names a free chunk of class c
 unfoldable pub freeOf : List ℕ → ℕ → ℕ → Bool
 freeOf ws c k = pick (ltb k 6) false (freeSeen c (chunkOf ws (k - 6)))
 
