@@ -11,7 +11,7 @@ use Rattle.audit.specs.declared.tiling.Tally.{Tally}
 use Rattle.audit.specs.declared.rings.Followed.the-variants.{Long}
 use Rattle.audit.specs.Layout.{usedSum, usedEnd}
 use Rattle.audit.specs.Walk.{Broken, tiledBy, tallied, cacheRightᵇ, FiguresFit}
-use Rattle.audit.specs.Rings.{count, nextOf, chained, listOf}
+use Rattle.audit.specs.Rings.{count, nextOf, listOf, AreRings}
 use Rattle.audit.specs.Window.{Ringed, Listed}
 use Rattle.audit.proofs.tiling.Walks.{Found, broken-not-whole, tiled-sound, tiled-complete}
 use Rattle.audit.proofs.tiling.Tallies.{tally-whole, tally-many}
@@ -43,7 +43,7 @@ module _ (prev next : List Link) (f : Figures) (ws : List ℕ) where
         subst₂ (λ (j k : ℕ). FiguresFit f (length ws) j k) x y (z .figures)
 
     -- its lists are rings of the lengths that were counted
-    pub rings-of : SoundPair prev next f ws → (c : ℕ) → c < 6 → chained prev next ws c ≡ Long (getD (t .frees) c 0)
+    pub rings-of : SoundPair prev next f ws → AreRings prev next ws (t .frees)
     rings-of z c i =
         right-ring ws (z .layout) (z .tiles) c prev next i (z .lists c i) ∙ ap Long (sym (tally-many ws t a e (z .layout) (z .tiles) c i))
 
@@ -53,7 +53,7 @@ module _ (prev next : List Link) (f : Figures) (ws : List ℕ) where
         right-listed ws (z .layout) (z .tiles) c prev next i (z .lists c i) x
         (subst (λ (n : ℕ). 0 < count x (listOf (nextOf next ws) n c)) (tally-many ws t a e (z .layout) (z .tiles) c i) k)
 
-    module _ (r : (c : ℕ) → c < 6 → chained prev next ws c ≡ Long (getD (t .frees) c 0)) where
+    module _ (r : AreRings prev next ws (t .frees)) where
       -- rings of those lengths are what `lists_right` asks for
       pub ringed-of : Ringed next ws (t .frees)
       ringed-of = record { layout = found .layout; tiles = found .tiles; inside = (λ c i x k. ring-inside prev next ws c (getD (t .frees) c 0) (r c i) x k) }

@@ -81,6 +81,10 @@ freeSeen c (Used n) = false
 unfoldable pub freeOf : List ℕ → ℕ → ℕ → Bool
 freeOf ws c k = pick (ltb k 6) false (freeSeen c (chunkOf ws (k - 6)))
 
+-- the first links of all six lists, as many as `frees` says, fit the window
+abbrev pub AllFit : List Link → List ℕ → List ℕ → List ℕ → ℕ → ℕ → Type 0
+AllFit next ws ms frees from to = (c : ℕ) → c < 6 → allᵇ (nextOf next ws) (fitsᵇ ws ms c from to) (getD frees c 0) c ≡ true
+
 -- the words are tiled, and the listed links lie before the guard
 pub record Ringed (next : List Link) (ws frees : List ℕ) : Type 0 where
   pub layout : List Chunk

@@ -19,7 +19,7 @@ use Rattle.audit.specs.declared.windows.Stand.{Stand}
 use Rattle.audit.specs.Layout.{pick}
 use Rattle.audit.specs.Walk.{bytes, chunkOf}
 use Rattle.audit.specs.Rings.{count, nextOf, listOf}
-use Rattle.audit.specs.Window.{markedᵇ, isFree, Standing, Window, fitsᵇ, allᵇ, freeSeen, freeOf, Ringed, Listed}
+use Rattle.audit.specs.Window.{markedᵇ, isFree, Standing, Window, fitsᵇ, allᵇ, freeSeen, freeOf, AllFit, Ringed, Listed}
 use Rattle.audit.proofs.Counting.{same-or, same-bit, le-or-lt}
 use Rattle.audit.proofs.tiling.Headers.{pick-some, free-not-bad, free-bytes}
 use Rattle.audit.proofs.tiling.Finds.{found-seen}
@@ -152,9 +152,7 @@ module _ (next : List Link) (ws frees : List ℕ) (g : Ringed next ws frees) whe
 
   module _ (ms : List ℕ) (at : ℕ) (r : Stand) (w : Window ws ms at r) where
     -- a window on
-    pub showing-on : (left : ℕ) → Showing next ws frees at left
-        → ((c : ℕ) → c < 6 → allᵇ (nextOf next ws) (fitsᵇ ws ms c at (r .at)) (getD frees c 0) c ≡ true)
-        → Showing next ws frees (r .at) (r .left)
+    pub showing-on : (left : ℕ) → Showing next ws frees at left → AllFit next ws ms frees at (r .at) → Showing next ws frees (r .at) (r .left)
     showing-on left s a =
         record {
           standing = w .standing;
@@ -169,7 +167,7 @@ module _ (next : List Link) (ws frees : List ℕ) (g : Ringed next ws frees) whe
         }
 
     -- where the lists hold free chunks of their classes only, they fit each window
-    pub listed-fit : Listed next ws frees → (c : ℕ) → c < 6 → allᵇ (nextOf next ws) (fitsᵇ ws ms c at (r .at)) (getD frees c 0) c ≡ true
+    pub listed-fit : Listed next ws frees → AllFit next ws ms frees at (r .at)
     listed-fit p c i =
         all-complete (nextOf next ws) (fitsᵇ ws ms c at (r .at)) (getD frees c 0) c
         (λ x k.
