@@ -5,7 +5,7 @@ use mathlib.Core.Path.{_≡_, refl, sym, ap, _∙_, subst}
 use mathlib.Core.Logic.{_↔_, ⊎-elim}
 use mathlib.Core.Bool.{Bool, true, false}
 use mathlib.Core.List.{List, [], _∷_, List·Memᴰ·head, List·Memᴰ·tail, List·Memᴰ·not-nil}
-use Prim.Native.Nat.{ℕ, suc, _+_, _-_, _*_, _/_, _%_, _≤_, _<_}
+use Prim.Native.Nat.{ℕ, suc, _+_, _-_, _*_, _/_, _≤_, _<_}
 use native.Mathlib.Omega.{arith}
 use native.Mathlib.Decide.{decLe, ℕ-discrete}
 use lib.Dec.{eqb}
@@ -39,6 +39,7 @@ mem-count : (x : ℕ) (xs : List ℕ) → Mem x xs → 0 < count x xs
 mem-count x (y ∷ ys) (List·Memᴰ·head e) = let b = same-bit x y e in omega arith
 mem-count x (y ∷ ys) (List·Memᴰ·tail m) = let r = mem-count x ys m in omega arith
 
+-- and what is counted is a member
 count-mem : (x : ℕ) (xs : List ℕ) → 0 < count x xs → Mem x xs
 count-mem x [] h = absurd (omega arith)
 count-mem x (y ∷ ys) h = go (λ q. count-mem x ys q) (ℕ-discrete x y)
@@ -76,10 +77,12 @@ links-free x k at (free n ∷ cs) l h = go (λ q. links-free x k (at + n / 4) cs
     e : (at + n / 4) * 4 ≡ at * 4 + n
     e = let n8 = l .1 in omega arith
 
-    later : (m : ℕ) × In (slot x m) (frees ((at + n / 4) * 4) (all cs)) × (classOf m ≡ k) → (m : ℕ) × In (slot x m) (slot (at * 4 / 4 + 6) n ∷ frees (at * 4 + n) (all cs)) × (classOf m ≡ k)
+    later : (m : ℕ) × In (slot x m) (frees ((at + n / 4) * 4) (all cs)) × (classOf m ≡ k)
+        → (m : ℕ) × In (slot x m) (slot (at * 4 / 4 + 6) n ∷ frees (at * 4 + n) (all cs)) × (classOf m ≡ k)
     later p = (p .0, List·Memᴰ·tail (subst (λ (b : ℕ). In (slot x (p .0)) (frees b (all cs))) e (p .1)), p .2)
 
-    go : (0 < count x (freeLinks k (at + n / 4) cs) → (m : ℕ) × In (slot x m) (frees ((at + n / 4) * 4) (all cs)) × (classOf m ≡ k)) → (t : Bool) → eqb (classOf n) k ≡ t
+    go : (0 < count x (freeLinks k (at + n / 4) cs) → (m : ℕ) × In (slot x m) (frees ((at + n / 4) * 4) (all cs)) × (classOf m ≡ k))
+        → (t : Bool) → eqb (classOf n) k ≡ t
         → 0 < count x (pick t ((at + 6) ∷ freeLinks k (at + n / 4) cs) (freeLinks k (at + n / 4) cs)) → (m : ℕ) × In (slot x m) (slot (at * 4 / 4 + 6) n ∷ frees (at * 4 + n) (all cs)) × (classOf m ≡ k)
     go f false q i = later (f i)
     go f true q i = go₂ (ℕ-discrete x (at + 6))
@@ -88,6 +91,7 @@ links-free x k at (free n ∷ cs) l h = go (λ q. links-free x k (at + n / 4) cs
         go₂ (yes j) = let y : x ≡ at * 4 / 4 + 6 = omega arith in (n, List·Memᴰ·head (λ u. record { name = y u; len = n }), eqb-true (classOf n) k q)
         go₂ (no j) = let b = diff-bit x (at + 6) j in later (f (omega arith))
 
+-- and the name of a slot is a free chunk's link
 free-links : (x n at : ℕ) (cs : List Chunk) → Legal (all cs) → In (slot x n) (frees (at * 4) (all cs)) → 0 < count x (freeLinks (classOf n) at cs)
 unfolding freeLinks pick frees
 free-links x n at [] l i = absurd (List·Memᴰ·not-nil i)
@@ -109,13 +113,16 @@ free-links x n at (free m ∷ cs) l i = go (λ j. free-links x n (at + m / 4) cs
 
 -- THE ORDERS, given for the six classes, as one family
 module _ (nx pv : ℕ → ℕ) (cs : List Chunk) (f : (c : ℕ) → c < 6 → ListRight nx pv cs c) where
+  -- the order of a class below 6, and else none
   abbrev chosen : (k : ℕ) → Dec (suc k ≤ 6) → List ℕ
   chosen k (yes q) = f k q .order
   chosen k (no q) = []
 
+  -- the family
   abbrev orders : ℕ → List ℕ
   orders k = chosen k (decLe (suc k) 6)
 
+  -- a class below 6 has its own order
   chosen-right : (k : ℕ) (d : Dec (suc k ≤ 6)) → k < 6 → Seg nx pv k (chosen k d) k × ((x : ℕ) → count x (chosen k d) ≡ count x (freeLinks k 0 cs))
   chosen-right k (yes q) h = (f k q .chain, f k q .exact)
   chosen-right k (no q) h = absurd (q h)
@@ -167,18 +174,23 @@ module _ (prev next : List Link) (f : Figures) (ws : List ℕ) where
 
   -- AND WHAT IS SOUND THE CODE CALLS SO
   module _ (m : Model) (s : Shows (ops narrow) 65529 1 (shown prev next f ws) m) where
+    -- the layout
     abbrev ds : List Chunk
     ds = backs (m .cs)
 
+    -- it is the model's
     same : all ds ≡ m .cs
     same = all-backs (m .cs)
 
+    -- its lengths are legal
     legal : Legal (all ds)
     legal = subst Legal (sym same) (s .legal)
 
+    -- it tiles the words
     tiles : Tiles ws 0 true ds
     tiles = tilings.from-rules ws 0 true (m .cs) (s .legal, (let y = s .fills in omega arith), s .tags, s .calm, refl, (let a = s .accepted .0 in omega arith))
 
+    -- the orders are runs of the links
     chain : (c : ℕ) → c < 6 → Seg (nextOf next ws) (prevOf prev ws) c (m .orders c) c
     unfolding nextOf prevOf
     chain c q = s .lists c q
@@ -189,6 +201,7 @@ module _ (prev next : List Link) (f : Figures) (ws : List ℕ) where
         let r = s .exact .only c x q (count-mem x (m .orders c) a) in
         subst (λ (k : ℕ). 0 < count x (freeLinks k 0 ds)) (r .2) (free-links x (r .0) 0 ds legal (subst (λ cs. In (slot x (r .0)) (frees 0 cs)) (sym same) (r .1)))
 
+    -- and back
     link-listed : (c x : ℕ) → 0 < count x (freeLinks c 0 ds) → 0 < count x (m .orders c)
     link-listed c x a =
         let r = links-free x c 0 ds legal a in
@@ -200,11 +213,13 @@ module _ (prev next : List Link) (f : Figures) (ws : List ℕ) where
     no-sentinel c q =
         ⊎-elim (λ e. e) (λ a. absurd (omega (arith, free-in ds ws 0 true tiles c c (listed-link c c q a) .0))) (none-or-some (count c (m .orders c)))
 
+    -- so the counts are equal
     exact : (c : ℕ) → c < 6 → (x : ℕ) → count x (m .orders c) ≡ count x (freeLinks c 0 ds)
     exact c q x =
         equal _ _ (chain-once (nextOf next ws) (prevOf prev ws) c (m .orders c) c (chain c q) (no-sentinel c q) x) (links-once ds ws c 0 true tiles x)
         (listed-link c x q) (link-listed c x)
 
+    -- the pair is sound by words and counts
     from-rules : SoundPair prev next f ws
     from-rules =
         let g : FiguresRight (shown prev next f ws .rest) (4 * (length ws - 1)) (all ds) =

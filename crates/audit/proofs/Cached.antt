@@ -5,9 +5,8 @@ use mathlib.Core.Logic.{⊎-elim}
 use mathlib.Core.List.{List, [], _∷_, List·Memᴰ·head, List·Memᴰ·not-nil, List·Memᴰ·eq-of-singleton}
 use mathlib.Core.Bool.{Bool, true, false, false≢true}
 use native.Mathlib.Omega.{arith}
-use lib.ListN.{length}
 use lib.Dec.{eqb, leb, ltb}
-use borrow.Author.Tests.{lt-ltb, le-ltb, le-leb, eq-eqb, ne-eqb, eqb-true, eqb-false, leb-true, ltb-true, ltb-false}
+use borrow.Author.Tests.{lt-ltb, le-ltb, le-leb, eq-eqb, ne-eqb, eqb-true, leb-true, ltb-false}
 use Rattle.words.specs.Choice as choice
 use Rattle.rules.specs.Place.{usedAt}
 use Rattle.rules.specs.Sound.{CacheRight}
@@ -25,6 +24,7 @@ pub cache-at : (ws : List ℕ) (l w : ℕ) (y : Seen) → (l ≡ 0 → ⊥) → 
 unfolding cacheRightᵇ pick
 cache-at ws l w y n i e f = simp (ne-eqb l 0 n, le-ltb l 6 i) (ap usedSeen (ap (chunkOf ws) (sym e) ∙ sym f))
 
+-- a used chunk that is seen has a length
 used-seen-is : (y : Seen) → usedSeen y ≡ true → (n : ℕ) × (y ≡ Used n)
 unfolding usedSeen
 used-seen-is Bad e = absurd (false≢true e)
@@ -35,7 +35,9 @@ used-seen-is (Used n) e = (n, refl)
 past : (at w m : ℕ) → at + m / 4 ≤ w → 16 ≤ m → m % 8 ≡ 0 → ((w - at) * 4 ≡ 0 → ⊥) × (m ≤ (w - at) * 4) × ((w - (at + m / 4)) * 4 ≡ (w - at) * 4 - m)
 past at w m i j k = (omega arith, omega arith, omega arith)
 
-in-used : (cs : List Chunk) (ws : List ℕ) (at : ℕ) (l : Bool) → Tiles ws at l cs → (w n : ℕ) → chunkIn cs at w ≡ Used n → (at ≤ w) × (0 < usedAt (all cs) ((w - at) * 4))
+-- a used chunk that the search finds is one of the rules' layout
+in-used : (cs : List Chunk) (ws : List ℕ) (at : ℕ) (l : Bool) → Tiles ws at l cs → (w n : ℕ) → chunkIn cs at w ≡ Used n
+    → (at ≤ w) × (0 < usedAt (all cs) ((w - at) * 4))
 unfolding chunkIn usedAt
 in-used [] ws at l t w n e = absurd (used-not-bad n e)
 in-used (free m ∷ cs) ws at l t w n e =
@@ -58,7 +60,9 @@ in-used (used m ∷ cs) ws at l t w n e =
     (omega arith, rw (eq-eqb ((w - at) * 4) 0 z) (omega (arith, t .0 .room .least))))
     (pick-is _ _ _ _ e)
 
-used-in : (cs : List Chunk) (ws : List ℕ) (at : ℕ) (l : Bool) → Tiles ws at l cs → (w : ℕ) → at ≤ w → 0 < usedAt (all cs) ((w - at) * 4) → (n : ℕ) × (chunkIn cs at w ≡ Used n)
+-- and a used chunk of the rules' layout is found
+used-in : (cs : List Chunk) (ws : List ℕ) (at : ℕ) (l : Bool) → Tiles ws at l cs → (w : ℕ) → at ≤ w → 0 < usedAt (all cs) ((w - at) * 4)
+    → (n : ℕ) × (chunkIn cs at w ≡ Used n)
 unfolding chunkIn usedAt pick
 used-in [] ws at l t w i h = absurd (omega arith)
 used-in (free m ∷ cs) ws at l t w i h = go (λ p q. used-in cs ws (at + m / 4) false (t .1) w p q) (eqb ((w - at) * 4) 0) refl (leb m ((w - at) * 4)) refl h
@@ -66,7 +70,8 @@ used-in (free m ∷ cs) ws at l t w i h = go (λ p q. used-in cs ws (at + m / 4)
     room : (16 ≤ m) × (m % 8 ≡ 0)
     room = (t .0 .room .least, t .0 .room .eights)
 
-    go : (at + m / 4 ≤ w → 0 < usedAt (all cs) ((w - (at + m / 4)) * 4) → (n : ℕ) × (chunkIn cs (at + m / 4) w ≡ Used n)) → (s : Bool) → eqb ((w - at) * 4) 0 ≡ s → (v : Bool) → leb m ((w - at) * 4) ≡ v
+    go : (at + m / 4 ≤ w → 0 < usedAt (all cs) ((w - (at + m / 4)) * 4) → (n : ℕ) × (chunkIn cs (at + m / 4) w ≡ Used n)) → (s : Bool)
+        → eqb ((w - at) * 4) 0 ≡ s → (v : Bool) → leb m ((w - at) * 4) ≡ v
         → 0 < choice.pick s 0 (choice.pick v (usedAt (all cs) ((w - at) * 4 - m)) 0) → (n : ℕ) × (pick (ltb at w) (chunkIn cs (at + m / 4) w) (pick (eqb at w) (Free m) Bad) ≡ Used n)
     go f true e v g q = absurd (omega arith)
     go f false e false g q = absurd (omega arith)
@@ -81,7 +86,8 @@ used-in (used m ∷ cs) ws at l t w i h = go (λ p q. used-in cs ws (at + m / 4)
     room : (16 ≤ m) × (m % 8 ≡ 0)
     room = (t .0 .room .least, t .0 .room .eights)
 
-    go : (at + m / 4 ≤ w → 0 < usedAt (all cs) ((w - (at + m / 4)) * 4) → (n : ℕ) × (chunkIn cs (at + m / 4) w ≡ Used n)) → (s : Bool) → eqb ((w - at) * 4) 0 ≡ s → (v : Bool) → leb m ((w - at) * 4) ≡ v
+    go : (at + m / 4 ≤ w → 0 < usedAt (all cs) ((w - (at + m / 4)) * 4) → (n : ℕ) × (chunkIn cs (at + m / 4) w ≡ Used n)) → (s : Bool)
+        → eqb ((w - at) * 4) 0 ≡ s → (v : Bool) → leb m ((w - at) * 4) ≡ v
         → 0 < choice.pick s m (choice.pick v (usedAt (all cs) ((w - at) * 4 - m)) 0) → (n : ℕ) × (pick (ltb at w) (chunkIn cs (at + m / 4) w) (pick (eqb at w) (Used m) Bad) ≡ Used n)
     go f true e v g q =
         let z = eqb-true ((w - at) * 4) 0 e in
@@ -94,11 +100,13 @@ used-in (used m ∷ cs) ws at l t w i h = go (λ p q. used-in cs ws (at + m / 4)
         let r = f (omega arith) (subst (λ (b : ℕ). 0 < usedAt (all cs) b) (sym (p .2)) q) in
         (r .0, simp (lt-ltb at w (omega arith)) (r .1))
 
+-- words counted from the start
 from-zero : (w : ℕ) → w - 0 ≡ w
 from-zero w = omega arith
 
 -- THE TEST IS THE RULES' CLAUSE
 module _ (ws : List ℕ) (cs : List Chunk) (t : Tiles ws 0 true cs) (l : ℕ) where
+  -- what passes the test is right by the rules
   pub cache-sound : cacheRightᵇ ws l ≡ true → CacheRight 1 (cachedOf l) (all cs)
   unfolding cacheRightᵇ pick
   cache-sound h = go (eqb l 0) h
@@ -120,6 +128,7 @@ module _ (ws : List ℕ) (cs : List Chunk) (t : Tiles ws 0 true cs) (l : ℕ) wh
             room = omega arith;
           }
 
+  -- and what is right passes
   pub cache-complete : CacheRight 1 (cachedOf l) (all cs) → cacheRightᵇ ws l ≡ true
   unfolding cacheRightᵇ pick usedSeen
   cache-complete h = go (eqb l 0) h

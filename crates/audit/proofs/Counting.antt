@@ -1,5 +1,6 @@
--- Counting in lists: a mirrored chain has no element twice; a list whose every count is at most another's is no longer, and where it is
--- as long, the counts are equal.
+-- Counting in lists, and answers that say exactly whether something holds.
+--     chain-once               a mirrored chain has no element twice
+--     no-longer, all-equal     a list whose every count is at most another's is no longer, and where it is as long, the counts are equal
 use Prim.Native.Nat.{ℕ, zero, suc, _+_, _≤_, _<_}
 use mathlib.Core.Path.{_≡_, refl, sym, ap, _∙_, subst}
 use mathlib.Core.Logic.{_⊎_, ⊎-elim, inl, inr, _↔_}
@@ -10,7 +11,7 @@ use lib.ListN.{length}
 use lib.Dec.{eqb, leb}
 use borrow.Author.Tests.{eq-eqb, ne-eqb, eqb-true, eqb-false, leb-true, leb-false}
 use Rattle.words.specs.Choice.{bit}
-use Rattle.rules.specs.Lists.{Seg}
+use Rattle.rules.specs.Lists.{Seg, remove}
 use Rattle.audit.specs.Rings.{count}
 
 -- two numbers are equal or not, with what `count` makes of it
@@ -21,12 +22,15 @@ same-or x y = go (eqb x y) refl
     go true e = inl (eqb-true x y e, ap bit e)
     go false e = inr (eqb-false x y e, ap bit e)
 
+-- equal numbers count 1
 pub same-bit : (x y : ℕ) → x ≡ y → bit (eqb x y) ≡ 1
 same-bit x y e = ap bit (eq-eqb x y e)
 
+-- different ones count 0
 pub diff-bit : (x y : ℕ) → (x ≡ y → ⊥) → bit (eqb x y) ≡ 0
 diff-bit x y n = ap bit (ne-eqb x y n)
 
+-- a count is 0 or positive
 pub none-or-some : (n : ℕ) → (n ≡ 0) ⊎ (0 < n)
 none-or-some zero = inl refl
 none-or-some (suc n) = inr (omega arith)
@@ -41,6 +45,7 @@ module _ (next prev : ℕ → ℕ) (c : ℕ) where
       (λ s. let p = in-prev zs z y (ch .2) (omega (arith, s .1)) in omega arith)
       (same-or y z)
 
+  -- so a chain that does not come back to its start has nothing twice
   pub chain-once : (xs : List ℕ) (x : ℕ) → Seg next prev x xs c → count x xs ≡ 0 → (y : ℕ) → count y xs ≤ 1
   chain-once [] x ch h y = omega arith
   chain-once (z ∷ zs) x ch h y =
@@ -53,33 +58,27 @@ module _ (next prev : ℕ → ℕ) (c : ℕ) where
       (λ s. let r = chain-once zs z (ch .2) nz y in omega (arith, s .1))
       (same-or y z)
 
--- ---- the pigeonhole
-pickL : Bool → List ℕ → List ℕ → List ℕ
-pickL true a b = a
-pickL false a b = b
-
-remove : ℕ → List ℕ → List ℕ
-remove x [] = []
-remove x (y ∷ ys) = pickL (eqb x y) ys (y ∷ remove x ys)
-
+-- THE PIGEONHOLE. The counts without the first x
 count-remove : (x z : ℕ) (ys : List ℕ) → 0 < count x ys → count z ys ≡ bit (eqb z x) + count z (remove x ys)
-unfolding remove pickL
+unfolding remove
 count-remove x z [] h = absurd (omega arith)
 count-remove x z (y ∷ ys) h =
     ⊎-elim
-    (λ s. rw (eq-eqb x y (s .0)) (ap (λ (k : ℕ). bit (eqb z k) + count z ys) (sym (s .0))))
-    (λ s. rw (ne-eqb x y (s .0)) (let r = count-remove x z ys (omega (arith, s .1)) in omega arith))
+    (λ s. rw (eq-eqb y x (sym (s .0))) (ap (λ (k : ℕ). bit (eqb z k) + count z ys) (sym (s .0))))
+    (λ s. rw (ne-eqb y x (λ e. s .0 (sym e))) (let r = count-remove x z ys (omega (arith, s .1)) in omega arith))
     (same-or x y)
 
+-- the length without it
 length-remove : (x : ℕ) (ys : List ℕ) → 0 < count x ys → length ys ≡ suc (length (remove x ys))
-unfolding remove pickL
+unfolding remove
 length-remove x [] h = absurd (omega arith)
 length-remove x (y ∷ ys) h =
     ⊎-elim
-    (λ s. rw (eq-eqb x y (s .0)))
-    (λ s. rw (ne-eqb x y (s .0)) (ap suc (length-remove x ys (omega (arith, s .1)))))
+    (λ s. rw (eq-eqb y x (sym (s .0))))
+    (λ s. rw (ne-eqb y x (λ e. s .0 (sym e))) (ap suc (length-remove x ys (omega (arith, s .1)))))
     (same-or x y)
 
+-- a list whose every count is at most another's is no longer
 pub no-longer : (o fr : List ℕ) → ((x : ℕ) → count x o ≤ count x fr) → length o ≤ length fr
 no-longer [] fr h = omega arith
 no-longer (x ∷ o) fr h =
@@ -87,6 +86,7 @@ no-longer (x ∷ o) fr h =
     let r = no-longer o (remove x fr) (λ z. omega (arith, h z, count-remove x z fr p)) in
     omega (arith, length-remove x fr p)
 
+-- and where it is as long, the counts are equal
 pub all-equal : (o fr : List ℕ) → ((x : ℕ) → count x o ≤ count x fr) → length o ≡ length fr → (x : ℕ) → count x o ≡ count x fr
 all-equal [] [] h e x = refl
 all-equal [] (y ∷ fr) h e x = absurd (omega arith)
@@ -95,6 +95,7 @@ all-equal (y ∷ o) fr h e x =
     let r = all-equal o (remove y fr) (λ z. omega (arith, h z, count-remove y z fr p)) (omega (arith, length-remove y fr p)) x in
     omega (arith, count-remove y x fr p)
 
+-- two numbers in order
 pub le-or-lt : (a b : ℕ) → (a ≤ b) ⊎ (b < a)
 le-or-lt a b = go (leb a b) refl
   where
@@ -106,12 +107,15 @@ le-or-lt a b = go (leb a b) refl
 pub refused : {P : Type 0} → (P → ⊥) → (false ≡ true) ↔ P
 refused n = ((λ e. absurd (false≢true e)), (λ p. absurd (n p)))
 
+-- an answer yes
 pub granted : {P : Type 0} → P → (true ≡ true) ↔ P
 granted p = ((λ e. p), (λ q. refl))
 
+-- an answer that is another's
 pub passed-on : {P Q : Type 0} (b : Bool) → (b ≡ true) ↔ Q → (Q → P) → (P → Q) → (b ≡ true) ↔ P
 passed-on b e f g = ((λ t. f (e .0 t)), (λ p. e .1 (g p)))
 
+-- a test holds or not
 pub true-or-false : (b : Bool) → (b ≡ true) ⊎ (b ≡ false)
 true-or-false true = inl refl
 true-or-false false = inr refl

@@ -1,7 +1,7 @@
 -- The class lists: a mirrored ring of the right length, each of whose links names a free chunk of its class, has exactly these.
 --     list-right                    by the pigeonhole
 --     right-ring, right-listed      and back
-use Prim.Native.Nat.{ℕ, _+_, _-_, _/_, _≤_, _<_}
+use Prim.Native.Nat.{ℕ, _+_, _-_, _≤_, _<_}
 use mathlib.Core.Path.{_≡_, refl, sym, ap, _∙_, subst, subst₂}
 use mathlib.Core.Logic.{⊎-elim}
 use mathlib.Core.List.{List}
@@ -33,6 +33,7 @@ free-seen-is c Bad e = absurd (false≢true e)
 free-seen-is c (Free n) e = (n, refl, eqb-true _ _ e)
 free-seen-is c (Used n) e = absurd (false≢true e)
 
+-- it is above 5, and the chunk at its word is free and of the class
 free-of-is : (ws : List ℕ) (c x : ℕ) → freeOf ws c x ≡ true → (6 ≤ x) × ((n : ℕ) × (chunkOf ws (x - 6) ≡ Free n) × (classOf n ≡ c))
 unfolding freeOf
 free-of-is ws c x e =
@@ -50,6 +51,7 @@ inside-is ws x e =
     (λ v. (ltb-false x 6 (v .0), ltb-true _ _ (v .1)))
     (pick-is _ _ _ _ e)
 
+-- a free chunk lies before the guard
 free-inside : (ws : List ℕ) (c x : ℕ) → freeOf ws c x ≡ true → insideᵇ ws x ≡ true
 unfolding insideᵇ pick
 free-inside ws c x e =
@@ -61,15 +63,18 @@ free-inside ws c x e =
 
 -- THE FIRST LINKS of a ring are its order
 module _ (prev next : List Link) (ws : List ℕ) (c n : ℕ) (e : chained prev next ws c ≡ Long n) where
+  -- what is followed to its end
   ring : Passing (nextOf next ws) (prevOf prev ws) (insideᵇ ws) c c 0 n
   unfolding chained
   ring = follow-sound (nextOf next ws) (prevOf prev ws) (insideᵇ ws) c (length ws + 1) c 0 n e
 
+  -- its order is what next alone gives
   ring-order : listOf (nextOf next ws) n c ≡ ring .order
   ring-order =
       let q : n ≡ length (ring .order) = omega (arith, ring .long) in
       ap (λ (k : ℕ). listOf (nextOf next ws) k c) q ∙ chain-list (nextOf next ws) (prevOf prev ws) c (ring .order) c (ring .chain)
 
+  -- and its links lie before the guard
   pub ring-inside : (x : ℕ) → 0 < count x (listOf (nextOf next ws) n c) → (6 ≤ x) × (x - 6 + 1 < length ws)
   ring-inside x i = inside-is ws x (ring .good x (subst (λ (o : List ℕ). 0 < count x o) ring-order i))
 
@@ -82,6 +87,7 @@ module _ (ws : List ℕ) (cs : List Chunk) (t : Tiles ws 0 true cs) (c : ℕ) wh
       subst₂ (λ (k d : ℕ). 0 < count k (freeLinks d 0 cs)) a (h .1 .2)
       (in-free cs 0 (x - 6) (h .1 .0) (sym (chunk-in ws cs (x - 6) t) ∙ h .1 .1))
 
+  -- and back
   link-free : (x : ℕ) → 0 < count x (freeLinks c 0 cs) → freeOf ws c x ≡ true
   unfolding freeSeen
   link-free x e =
@@ -90,7 +96,8 @@ module _ (ws : List ℕ) (cs : List Chunk) (t : Tiles ws 0 true cs) (c : ℕ) wh
 
   module _ (prev next : List Link) (c6 : c < 6) where
     -- A RING OF THE RIGHT LENGTH, with free chunks of the class only, has each of them once
-    pub list-right : (n : ℕ) → n ≡ length (freeLinks c 0 cs) → chained prev next ws c ≡ Long n → ((x : ℕ) → 0 < count x (listOf (nextOf next ws) n c) → freeOf ws c x ≡ true) → ListRight (nextOf next ws) (prevOf prev ws) cs c
+    pub list-right : (n : ℕ) → n ≡ length (freeLinks c 0 cs) → chained prev next ws c ≡ Long n
+        → ((x : ℕ) → 0 < count x (listOf (nextOf next ws) n c) → freeOf ws c x ≡ true) → ListRight (nextOf next ws) (prevOf prev ws) cs c
     list-right n q e g =
         let p = ring prev next ws c n e in
         let o = p .order in
@@ -103,15 +110,18 @@ module _ (ws : List ℕ) (cs : List Chunk) (t : Tiles ws 0 true cs) (c : ℕ) wh
         record { order = o; chain = p .chain; exact = all-equal o (freeLinks c 0 cs) under (omega (arith, p .long)) }
 
     module _ (r : ListRight (nextOf next ws) (prevOf prev ws) cs c) where
+      -- the list is as long as there are free chunks of the class
       as-long : length (r .order) ≡ length (freeLinks c 0 cs)
       as-long =
           let a = no-longer (r .order) (freeLinks c 0 cs) (λ x. omega (arith, r .exact x)) in
           let b = no-longer (freeLinks c 0 cs) (r .order) (λ x. omega (arith, r .exact x)) in
           omega arith
 
+      -- its links name them
       order-free : (x : ℕ) → 0 < count x (r .order) → freeOf ws c x ≡ true
       order-free x k = link-free x (omega (arith, k, r .exact x))
 
+      -- AND BACK: a list that is right is a ring of that length
       pub right-ring : chained prev next ws c ≡ Long (length (freeLinks c 0 cs))
       unfolding chained
       right-ring =
@@ -123,6 +133,7 @@ module _ (ws : List ℕ) (cs : List Chunk) (t : Tiles ws 0 true cs) (c : ℕ) wh
           (omega (arith, f, as-long))
           ∙ ap Long (omega (arith, as-long))
 
+      -- and its first links name free chunks of the class
       pub right-listed : (x : ℕ) → 0 < count x (listOf (nextOf next ws) (length (freeLinks c 0 cs)) c) → freeOf ws c x ≡ true
       right-listed x i =
           let o : listOf (nextOf next ws) (length (freeLinks c 0 cs)) c ≡ r .order =

@@ -21,6 +21,7 @@ pub record ListRight (next prev : ℕ → ℕ) (cs : List Chunk) (c : ℕ) : Typ
   pub chain : Seg next prev c order c
   pub exact : (x : ℕ) → count x order ≡ count x (freeLinks c 0 cs)
 
+-- SOUND: a layout that tiles the words, and lists, cache and figures that are right for it
 pub record SoundPair (prev next : List Link) (f : Figures) (ws : List ℕ) : Type 0 where
   pub layout : List Chunk
   pub tiles : Tiles ws 0 true layout

@@ -1,8 +1,9 @@
 -- THE CLASS LISTS AS RINGS, as the code follows them: no part of what a sound heap is.
-use Prim.Native.Nat.{ℕ, zero, suc, _+_, _-_}
+use Prim.Native.Nat.{ℕ, zero, suc, _+_, _-_, _<_}
+use mathlib.Core.Path.{_≡_}
 use mathlib.Core.List.{List, [], _∷_}
 use mathlib.Core.Bool.{Bool, false}
-use lib.ListN.{length}
+use lib.ListN.{length, getD}
 use lib.Dec.{ltb, eqb}
 use Rattle.words.specs.declared.names.Link.{Link}
 use Rattle.words.specs.Choice.{bit}
@@ -22,6 +23,7 @@ count x (y ∷ ys) = bit (eqb x y) + count x ys
 unfoldable pub nextOf : List Link → List ℕ → ℕ → ℕ
 nextOf next ws k = nodeLink narrow links.next (numbers next) ws k
 
+-- and the one before it
 unfoldable pub prevOf : List Link → List ℕ → ℕ → ℕ
 prevOf prev ws k = nodeLink narrow links.prev (numbers prev) ws k
 
@@ -41,6 +43,10 @@ module _ (next prev : ℕ → ℕ) (ok : ℕ → Bool) (c : ℕ) where
 -- the class list as a mirrored ring of links before the guard
 unfoldable pub chained : List Link → List Link → List ℕ → ℕ → Followed
 chained prev next ws c = followFrom (nextOf next ws) (prevOf prev ws) (insideᵇ ws) c (length ws + 1) c 0
+
+-- each class list is such a ring, of as many links as `frees` says
+abbrev pub AreRings : List Link → List Link → List ℕ → List ℕ → Type 0
+AreRings prev next ws frees = (c : ℕ) → c < 6 → chained prev next ws c ≡ Long (getD frees c 0)
 
 -- the first n links after one
 unfoldable pub listOf : (ℕ → ℕ) → ℕ → ℕ → List ℕ

@@ -14,6 +14,7 @@ use Rattle.audit.specs.declared.Figures.{Figures}
 abbrev pub cachedOf : ℕ → List ℕ
 cachedOf l = pick (eqb l 0) [] (l ∷ [])
 
+-- the state: the links as numbers, the words, and the figures
 abbrev pub shown : List Link → List Link → Figures → List ℕ → State
 shown prev next f ws =
     record {

@@ -42,6 +42,7 @@ turn c go at sum top fr Bad = Broken
 turn c go at sum top fr (Free n) = go (at + n / 4) 0 sum top (fr + bit (eqb (classOf n) c))
 turn c go at sum top fr (Used n) = go (at + n / 4) 1 (sum + n) ((at + n / 4) * 4) fr
 
+-- the walk from word `at` on, in at most so many turns, with the sums so far
 unfoldable pub walk : ℕ → List ℕ → ℕ → ℕ → ℕ → ℕ → ℕ → ℕ → Tiled
 walk zero ws c at left sum top fr = Broken
 walk (suc f) ws c at left sum top fr =
@@ -49,6 +50,7 @@ walk (suc f) ws c at left sum top fr =
     (turn c (walk f ws c) at sum top fr (seenAt ws at left))
     (pick (eqb (getD ws at 0) (2 + left)) (Whole sum top fr) Broken)
 
+-- the walk of all words, for class c
 unfoldable pub tiledBy : List ℕ → ℕ → Tiled
 tiledBy ws c = walk (length ws) ws c 0 1 0 0 0
 
@@ -62,6 +64,7 @@ onto go at Bad = Bad
 onto go at (Free n) = go (at + n / 4) 0
 onto go at (Used n) = go (at + n / 4) 1
 
+-- the search for word w from word `at` on, in at most so many turns
 unfoldable pub chunkFrom : ℕ → List ℕ → ℕ → ℕ → ℕ → Seen
 chunkFrom zero ws w at left = Bad
 chunkFrom (suc f) ws w at left =
@@ -69,6 +72,7 @@ chunkFrom (suc f) ws w at left =
     (onto (chunkFrom f ws w) at (seenAt ws at left))
     (pick (eqb at w) (seenAt ws at left) Bad)
 
+-- the chunk whose header is word w
 unfoldable pub chunkOf : List ℕ → ℕ → Seen
 chunkOf ws w = chunkFrom (suc (length ws)) ws w 0 1
 
@@ -84,6 +88,7 @@ usedSeen Bad = false
 usedSeen (Free n) = false
 usedSeen (Used n) = true
 
+-- no chunk, or a used one
 unfoldable pub cacheRightᵇ : List ℕ → ℕ → Bool
 cacheRightᵇ ws l = pick (eqb l 0) true (pick (ltb l 6) false (usedSeen (chunkOf ws (l - 6))))
 

@@ -1,7 +1,7 @@
 -- THE LISTS AGAINST A WINDOW of the words, as the code takes them: no part of what a sound heap is.
 use Prim.Native.Nat.{ℕ, zero, suc, _+_, _-_, _*_, _/_, _%_, _≤_, _<_}
 use mathlib.Core.Path.{_≡_}
-use mathlib.Core.List.{List, [], _∷_}
+use mathlib.Core.List.{List}
 use mathlib.Core.Bool.{Bool, true, false}
 use lib.ListN.{length, getD, set}
 use lib.Dec.{ltb, leb, eqb}
@@ -19,6 +19,7 @@ use Rattle.audit.specs.Rings.{count, nextOf, listOf}
 unfoldable pub nibble : ℕ → ℕ → ℕ
 nibble v d = pick (ltb (d % 16) 8) (v % 16) (v / 16)
 
+-- a byte with the half of word d changed
 unfoldable pub withNibble : ℕ → ℕ → ℕ
 withNibble v d = pick (ltb (d % 16) 8) (v / 16 * 16 + (d % 8 + 1)) ((d % 8 + 1) * 16 + v % 16)
 
@@ -26,9 +27,11 @@ withNibble v d = pick (ltb (d % 16) 8) (v / 16 * 16 + (d % 8 + 1)) ((d % 8 + 1) 
 unfoldable pub markedᵇ : List ℕ → ℕ → Bool
 markedᵇ ms d = eqb (nibble (getD ms (d / 16) 0) d) (d % 8 + 1)
 
+-- the marks with word d marked
 unfoldable pub withMark : List ℕ → ℕ → List ℕ
 withMark ms d = set ms (d / 16) (withNibble (getD ms (d / 16) 0) d)
 
+-- what is seen is a free chunk
 unfoldable pub isFree : Seen → Bool
 isFree Bad = false
 isFree (Free n) = true
@@ -74,8 +77,13 @@ freeSeen c Bad = false
 freeSeen c (Free n) = eqb (classOf n) c
 freeSeen c (Used n) = false
 
+-- link k names a free chunk of class c
 unfoldable pub freeOf : List ℕ → ℕ → ℕ → Bool
 freeOf ws c k = pick (ltb k 6) false (freeSeen c (chunkOf ws (k - 6)))
+
+-- the first links of all six lists, as many as `frees` says, fit the window
+abbrev pub AllFit : List Link → List ℕ → List ℕ → List ℕ → ℕ → ℕ → Type 0
+AllFit next ws ms frees from to = (c : ℕ) → c < 6 → allᵇ (nextOf next ws) (fitsᵇ ws ms c from to) (getD frees c 0) c ≡ true
 
 -- the words are tiled, and the listed links lie before the guard
 pub record Ringed (next : List Link) (ws frees : List ℕ) : Type 0 where

@@ -5,10 +5,7 @@
 ghost use mathlib.Core.Path.{_≡_};
 ghost use mathlib.Core.Logic.{_↔_};
 ghost use mathlib.Core.Bool.{Bool, true};
-ghost use Prim.Native.Nat.{ℕ, _<_};
-ghost use lib.ListN.{getD};
-ghost use Rattle.audit.specs.declared.rings.Followed.the-variants.{Long};
-ghost use Rattle.audit.specs.Rings.{insideᵇ, chained};
+ghost use Rattle.audit.specs.Rings.{insideᵇ, chained, AreRings};
 use words::Link;
 
 // A list followed to its end: cut, or how many chunks it has.
@@ -54,7 +51,7 @@ fn follow(prev: [Link; 6], next: [Link; 6], heap: &[u32], class: u16) -> Followe
 
 // Whether each class list is a mirrored ring of as many chunks as the tiling has free ones of that class.
 pub(crate) fn rings_right(prev: [Link; 6], next: [Link; 6], heap: &[u32], frees: [usize; 6]) -> bool
-    ensures { λ (r : Bool). ⌜ (r ≡ true ↔ ((c : ℕ) → c < 6 → chained prev next (now (heap .entry)) c ≡ Long (getD frees c 0))) ⌝ }
+    ensures { λ (r : Bool). ⌜ (r ≡ true ↔ AreRings prev next (now (heap .entry)) frees) ⌝ }
 {
     let mut class: u16 = 0;
     while class < 6 {

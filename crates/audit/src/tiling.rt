@@ -3,7 +3,7 @@
 // A walk stands at a header and knows whether its left neighbour is used: `left` is 1 if it is and 0 if not. Contracts cite specs/Walk.antt; what is
 // seen is a layout of specs/Layout.antt, and each layout is seen (proofs/tiling/).
 ghost use mathlib.Core.Path.{_≡_};
-ghost use mathlib.Core.Bool.{Bool, false};
+ghost use mathlib.Core.Bool.{false};
 ghost use Prim.Native.Nat.{ℕ, _<_};
 ghost use Rattle.audit.specs.declared.tiling.Seen.the-variants.{Bad};
 ghost use Rattle.audit.specs.Walk.{seenAt, tiledBy, tallied, chunkOf};

@@ -6,10 +6,10 @@
 ghost use mathlib.Core.Path.{_≡_};
 ghost use mathlib.Core.Logic.{_↔_};
 ghost use mathlib.Core.Bool.{Bool, true};
-ghost use Prim.Native.Nat.{ℕ, _≤_, _<_, _/_};
-ghost use lib.ListN.{length, getD};
+ghost use Prim.Native.Nat.{_≤_, _<_, _/_};
+ghost use lib.ListN.{length};
 ghost use Rattle.audit.specs.Rings.{nextOf};
-ghost use Rattle.audit.specs.Window.{markedᵇ, withMark, fitsᵇ, allᵇ, Blank, Window, Ringed, Listed};
+ghost use Rattle.audit.specs.Window.{markedᵇ, withMark, fitsᵇ, allᵇ, AllFit, Blank, Window, Ringed, Listed};
 use super::tiling::Seen;
 use super::tiling::known_at;
 use words::Link;
@@ -130,7 +130,7 @@ fn window_right(
     to: usize,
 ) -> bool
     requires { ⌜ (from ≤ to) × (to ≤ length (now heap)) ⌝ }
-    ensures { λ (r : Bool). ⌜ (r ≡ true ↔ ((c : ℕ) → c < 6 → allᵇ (nextOf next (now (heap .entry))) (fitsᵇ (now (heap .entry)) (now (marks .entry)) c from to) (getD frees c 0) c ≡ true)) ⌝ }
+    ensures { λ (r : Bool). ⌜ (r ≡ true ↔ AllFit next (now (heap .entry)) (now (marks .entry)) frees from to) ⌝ }
 {
     let mut class: u16 = 0;
     while class < 6 {

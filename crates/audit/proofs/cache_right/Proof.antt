@@ -1,7 +1,7 @@
 -- `audit::cache_right` meets its contract: link 0 names none, links 1 to 5 no chunk, and any other the chunk at its word.
 use mathlib.Core.Path.{sym, ap, _∙_}
-use borrow.Author.Tests.{eq-eqb, ne-eqb, lt-ltb}
 use borrow.Author.Needs.{needs}
+use borrow.Author.Tests.{eq-eqb, ne-eqb, lt-ltb}
 use Rattle.audit.specs.Layout.{pick}
 use Rattle.audit.specs.Walk.{cacheRightᵇ, usedSeen}
 use Rattle.audit.proofs.Cached.{cache-at}
@@ -33,15 +33,24 @@ enum-told-3 c = search needs
 
 returns-3 : tie.Need-returns-3
 unfolding usedSeen
-returns-3 c = sym (cache-at _ _ _ _ (c .before .before .before .before .before .before .if1 .left) (c .before .before .before .before .if2 .left) (c .before .before .before .link-to-hdr .ensures) (c .before .before .chunk-of .ensures) ∙ ap usedSeen (c .enum-told .given .1))
+returns-3 c =
+    sym
+    (cache-at _ _ _ _ (c .before .before .before .before .before .before .if1 .left) (c .before .before .before .before .if2 .left) (c .before .before .before .link-to-hdr .ensures) (c .before .before .chunk-of .ensures)
+    ∙ ap usedSeen (c .enum-told .given .1))
 
 returns-4 : tie.Need-returns-4
 unfolding usedSeen
-returns-4 c = sym (cache-at _ _ _ _ (c .before .before .before .before .before .before .if1 .left) (c .before .before .before .before .if2 .left) (c .before .before .before .link-to-hdr .ensures) (c .before .before .chunk-of .ensures) ∙ ap usedSeen (c .enum-told2 .given .1))
+returns-4 c =
+    sym
+    (cache-at _ _ _ _ (c .before .before .before .before .before .before .if1 .left) (c .before .before .before .before .if2 .left) (c .before .before .before .link-to-hdr .ensures) (c .before .before .chunk-of .ensures)
+    ∙ ap usedSeen (c .enum-told2 .given .1))
 
 returns-5 : tie.Need-returns-5
 unfolding usedSeen
-returns-5 c = sym (cache-at _ _ _ _ (c .before .before .before .before .before .before .if1 .left) (c .before .before .before .before .if2 .left) (c .before .before .before .link-to-hdr .ensures) (c .before .before .chunk-of .ensures) ∙ ap usedSeen (c .enum-told3 .given .1))
+returns-5 c =
+    sym
+    (cache-at _ _ _ _ (c .before .before .before .before .before .before .if1 .left) (c .before .before .before .before .if2 .left) (c .before .before .before .link-to-hdr .ensures) (c .before .before .chunk-of .ensures)
+    ∙ ap usedSeen (c .enum-told3 .given .1))
 
 pub cache-right-spec : {M : Type 1} → statement M
 cache-right-spec =

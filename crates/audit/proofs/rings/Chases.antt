@@ -1,13 +1,13 @@
 -- Following a list: the turns of the loop, and that what is followed to its end is a mirrored ring, which next alone then gives.
 use Prim.Native.Nat.{ℕ, zero, suc, _+_, _-_, _≤_, _<_}
 use mathlib.Core.Path.{_≡_, refl, sym, ap, _∙_, subst}
-use mathlib.Core.Logic.{_⊎_, ⊎-elim, inl, inr}
+use mathlib.Core.Logic.{_⊎_, ⊎-elim}
 use mathlib.Core.List.{List, [], _∷_}
-use mathlib.Core.Bool.{Bool, true, false, not}
+use mathlib.Core.Bool.{Bool, true, false}
 use native.Mathlib.Omega.{arith}
 use lib.ListN.{length}
 use lib.Dec.{eqb}
-use borrow.Author.Tests.{eq-eqb, ne-eqb, eqb-true, eqb-false}
+use borrow.Author.Tests.{eq-eqb, ne-eqb, eqb-true}
 use Rattle.audit.specs.declared.rings.Followed.{Followed}
 use Rattle.audit.specs.declared.rings.Followed.the-variants.{Cut, Long}
 use Rattle.rules.specs.Lists.{Seg}
@@ -16,9 +16,11 @@ use Rattle.audit.specs.Rings.{count, followFrom, listOf}
 use Rattle.audit.proofs.Counting.{same-or, same-bit}
 use Rattle.audit.proofs.tiling.Headers.{pick-some, pick-is}
 
+-- a list is cut or long
 pub cut-not-long : (m : ℕ) → Cut ≡ Long m → ⊥
 cut-not-long m e = let z : _≡_ {A = ℕ} 0 1 = cc in omega arith
 
+-- a list has one length
 pub long-is : (a b : ℕ) → Long a ≡ Long b → a ≡ b
 long-is a b e = cc (e)
 
@@ -30,6 +32,7 @@ pub record Following (next prev : ℕ → ℕ) (ok : ℕ → Bool) (c : ℕ) (wh
 
 module _ (next prev : ℕ → ℕ) (ok : ℕ → Bool) (c : ℕ) where
   module _ (whole : Followed) (most from n : ℕ) (g : Following next prev ok c whole most from n) where
+    -- after the last turn the list is cut
     pub ran-out : most ≤ n → whole ≡ Cut
     unfolding followFrom
     ran-out i =
@@ -37,32 +40,39 @@ module _ (next prev : ℕ → ℕ) (ok : ℕ → Bool) (c : ℕ) where
         g .same ∙ ap (λ (f : ℕ). followFrom next prev ok c f from n) e
 
     module _ (i : n < most) where
+      -- a turn of the walk, with one turn less to go
       step : (f : ℕ) × (f + (n + 1) ≡ most) × (whole ≡ pick (eqb (prev (next from)) from) (pick (eqb (next from) c) (Long n) (pick (ok (next from)) (followFrom next prev ok c f (next from) (n + 1)) Cut)) Cut)
       unfolding followFrom
       step = go (g .fuel) (g .left) (g .same)
         where
-          go : (f : ℕ) → f + n ≡ most → whole ≡ followFrom next prev ok c f from n → (f : ℕ) × (f + (n + 1) ≡ most) × (whole ≡ pick (eqb (prev (next from)) from) (pick (eqb (next from) c) (Long n) (pick (ok (next from)) (followFrom next prev ok c f (next from) (n + 1)) Cut)) Cut)
+          go : (f : ℕ) → f + n ≡ most → whole ≡ followFrom next prev ok c f from n
+              → (f : ℕ) × (f + (n + 1) ≡ most) × (whole ≡ pick (eqb (prev (next from)) from) (pick (eqb (next from) c) (Long n) (pick (ok (next from)) (followFrom next prev ok c f (next from) (n + 1)) Cut)) Cut)
           go zero e s = absurd (omega arith)
           go (suc f) e s = (f, omega arith, s)
 
       -- the ways a turn can go, by the links that the code reads
       module _ (k b : ℕ) (q : k ≡ next from) (r : b ≡ prev k) where
+        -- what prev says of the next link
         back : prev (next from) ≡ b
         back = ap prev (sym q) ∙ sym r
 
+        -- prev does not mirror next
         pub not-back : (b ≡ from → ⊥) → whole ≡ Cut
         unfolding pick
         not-back e = step .2 ∙ simp (ne-eqb (prev (next from)) from (λ z. e (sym back ∙ z)))
 
+        -- the sentinel comes again
         pub at-end : b ≡ from → k ≡ c → whole ≡ Long n
         unfolding pick
         at-end e z = step .2 ∙ simp (eq-eqb (prev (next from)) from (back ∙ e), eq-eqb (next from) c (sym q ∙ z))
 
         module _ (e : b ≡ from) (z : k ≡ c → ⊥) where
+          -- a link does not pass
           pub not-ok : ok k ≡ false → whole ≡ Cut
           unfolding pick
           not-ok o = step .2 ∙ simp (eq-eqb (prev (next from)) from (back ∙ e), ne-eqb (next from) c (λ y. z (q ∙ y)), ap ok (sym q) ∙ o)
 
+          -- a link passes
           pub goes-on : ok k ≡ true → Following next prev ok c whole most k (n + 1)
           unfolding pick
           goes-on o =
@@ -80,6 +90,7 @@ module _ (next prev : ℕ → ℕ) (ok : ℕ → Bool) (c : ℕ) where
     pub good : (x : ℕ) → 0 < count x order → ok x ≡ true
     pub long : m ≡ n + length order
 
+  -- a list that is long has an order
   pub follow-sound : (f from n m : ℕ) → followFrom next prev ok c f from n ≡ Long m → Passing from n m
   unfolding followFrom
   follow-sound zero from n m e = absurd (cut-not-long m e)
@@ -106,7 +117,9 @@ module _ (next prev : ℕ → ℕ) (ok : ℕ → Bool) (c : ℕ) where
       })
       (pick-is _ _ _ _ (g1 .1))
 
-  pub follow-complete : (f : ℕ) (o : List ℕ) (from n : ℕ) → ((x : ℕ) → ok x ≡ true → x ≡ c → ⊥) → Seg next prev from o c → ((x : ℕ) → 0 < count x o → ok x ≡ true) → length o < f → followFrom next prev ok c f from n ≡ Long (n + length o)
+  -- and an order that passes makes it long
+  pub follow-complete : (f : ℕ) (o : List ℕ) (from n : ℕ) → ((x : ℕ) → ok x ≡ true → x ≡ c → ⊥) → Seg next prev from o c
+      → ((x : ℕ) → 0 < count x o → ok x ≡ true) → length o < f → followFrom next prev ok c f from n ≡ Long (n + length o)
   unfolding followFrom pick
   follow-complete zero o from n z ch good h = absurd (omega arith)
   follow-complete (suc f) [] from n z ch good h =

@@ -23,32 +23,39 @@ pub record Seeking (ws : List ℕ) (w at left : ℕ) : Type 0 where
   pub enough : length ws < at + fuel
   pub same : chunkOf ws w ≡ chunkFrom fuel ws w at left
 
+-- at the start
 pub seeking-starts : (ws : List ℕ) (w : ℕ) → Seeking ws w 0 1
 unfolding chunkOf
 seeking-starts ws w = record { fuel = suc (length ws); enough = omega arith; same = refl }
 
 module _ (ws : List ℕ) (w at left : ℕ) where
+  -- a search that goes on
   from-turn : (f : ℕ) → at < w → (y : Seen) → seenAt ws at left ≡ y → chunkFrom (suc f) ws w at left ≡ onto (chunkFrom f ws w) at y
   unfolding chunkFrom pick
   from-turn f i y e = simp (lt-ltb at w i, e)
 
+  -- one that is there
   from-here : (f : ℕ) → at ≡ w → chunkFrom (suc f) ws w at left ≡ seenAt ws at left
   unfolding chunkFrom pick
   from-here f e = simp (le-ltb at w (omega arith), eq-eqb at w e)
 
+  -- one that is past it
   from-past : (f : ℕ) → w ≤ at → (at ≡ w → ⊥) → chunkFrom f ws w at left ≡ Bad
   unfolding chunkFrom pick
   from-past zero i n = refl
   from-past (suc f) i n = simp (le-ltb at w i, ne-eqb at w n)
 
   -- a turn with the fuel that is left; past the words nothing is seen
-  seek-turn : Seeking ws w at left → at < w → at < length ws → (y : Seen) → seenAt ws at left ≡ y → (f : ℕ) × (length ws < at + suc f) × (chunkOf ws w ≡ onto (chunkFrom f ws w) at y)
+  seek-turn : Seeking ws w at left → at < w → at < length ws → (y : Seen) → seenAt ws at left ≡ y
+      → (f : ℕ) × (length ws < at + suc f) × (chunkOf ws w ≡ onto (chunkFrom f ws w) at y)
   seek-turn g i k y e = go (g .fuel) (g .enough) (g .same)
     where
-      go : (f : ℕ) → length ws < at + f → chunkOf ws w ≡ chunkFrom f ws w at left → (f : ℕ) × (length ws < at + suc f) × (chunkOf ws w ≡ onto (chunkFrom f ws w) at y)
+      go : (f : ℕ) → length ws < at + f → chunkOf ws w ≡ chunkFrom f ws w at left
+          → (f : ℕ) × (length ws < at + suc f) × (chunkOf ws w ≡ onto (chunkFrom f ws w) at y)
       go zero h s = absurd (omega arith)
       go (suc f) h s = (f, h, s ∙ from-turn f i y e)
 
+  -- nothing legal is seen: nothing is found
   pub seek-bad : Seeking ws w at left → at < w → seenAt ws at left ≡ Bad → chunkOf ws w ≡ Bad
   unfolding chunkFrom onto
   seek-bad g i e = go (g .fuel) (g .same)
@@ -57,6 +64,7 @@ module _ (ws : List ℕ) (w at left : ℕ) where
       go zero s = s
       go (suc f) s = s ∙ from-turn f i Bad e
 
+  -- past a free chunk
   pub seek-free : (n : ℕ) → Seeking ws w at left → at < w → seenAt ws at left ≡ Free n → Seeking ws w (at + n / 4) 0
   unfolding onto
   seek-free n g i e =
@@ -64,6 +72,7 @@ module _ (ws : List ℕ) (w at left : ℕ) where
       let k = seek-turn g i (omega arith) (Free n) e in
       record { fuel = k .0; enough = omega (arith, k .1); same = k .2 }
 
+  -- past a used chunk
   pub seek-used : (n : ℕ) → Seeking ws w at left → at < w → seenAt ws at left ≡ Used n → Seeking ws w (at + n / 4) 1
   unfolding onto
   seek-used n g i e =
@@ -71,13 +80,16 @@ module _ (ws : List ℕ) (w at left : ℕ) where
       let k = seek-turn g i (omega arith) (Used n) e in
       record { fuel = k .0; enough = omega (arith, k .1); same = k .2 }
 
+  -- past the word: nothing is found
   pub seek-past : Seeking ws w at left → w ≤ at → (at ≡ w → ⊥) → chunkOf ws w ≡ Bad
   seek-past g i n = g .same ∙ from-past (g .fuel) i n
 
+  -- past the words nothing is seen
   seen-past : length ws ≤ at → seenAt ws at left ≡ Bad
   unfolding seenAt pick
   seen-past i = simp (le-ltb at (length ws) i)
 
+  -- at the word: what is seen there is found
   pub seek-here : Seeking ws w at left → at ≡ w → chunkOf ws w ≡ seenAt ws at left
   unfolding chunkFrom
   seek-here g e = go (g .fuel) (g .enough) (g .same)
@@ -88,12 +100,14 @@ module _ (ws : List ℕ) (w at left : ℕ) where
 
 -- WHAT IS FOUND is seen there
 module _ (ws : List ℕ) (w : ℕ) (y : Seen) (n : Bad ≡ y → ⊥) where
+  -- a turn that finds something
   onto-seen : (go : ℕ → ℕ → Seen) (at : ℕ) (z : Seen) → ((a l : ℕ) → go a l ≡ y → (k : ℕ) × (seenAt ws w k ≡ y)) → onto go at z ≡ y → (k : ℕ) × (seenAt ws w k ≡ y)
   unfolding onto
   onto-seen go at Bad ih e = absurd (n e)
   onto-seen go at (Free m) ih e = ih (at + m / 4) 0 e
   onto-seen go at (Used m) ih e = ih (at + m / 4) 1 e
 
+  -- a search that finds something
   from-seen : (f at left : ℕ) → chunkFrom f ws w at left ≡ y → (k : ℕ) × (seenAt ws w k ≡ y)
   unfolding chunkFrom
   from-seen zero at left e = absurd (n e)
@@ -105,6 +119,7 @@ module _ (ws : List ℕ) (w : ℕ) (y : Seen) (n : Bad ≡ y → ⊥) where
       (left, subst (λ (a : ℕ). seenAt ws a left ≡ y) (eqb-true _ _ (g .0)) (g .1)))
       (pick-is _ _ _ _ e)
 
+  -- what is found at a word is seen there, with some left bit
   pub found-seen : chunkOf ws w ≡ y → (k : ℕ) × (seenAt ws w k ≡ y)
   unfolding chunkOf
   found-seen e = from-seen (suc (length ws)) 0 1 e
@@ -121,11 +136,13 @@ guard-bad ws at left h =
     (le-or-lt 4 (getD ws at 0 % 8)))
     (le-or-lt (length ws) at)
 
+-- a choice of one thing
 pick-same : {A : Type 0} (b : Bool) (x : A) → pick b x x ≡ x
 unfolding pick
 pick-same true x = refl
 pick-same false x = refl
 
+-- the search by headers is the search on the layout
 found-in : (f : ℕ) (cs : List Chunk) (ws : List ℕ) (w at : ℕ) (l : Bool) → Tiles ws at l cs → length ws < at + f → chunkFrom f ws w at (bit l) ≡ chunkIn cs at w
 unfolding chunkFrom onto chunkIn
 found-in zero [] ws w at l t h = absurd (omega arith)
@@ -138,6 +155,7 @@ found-in (suc f) (free n ∷ cs) ws w at l t h =
 found-in (suc f) (used n ∷ cs) ws w at l t h =
     rw (used-seen ws at l n (t .0), found-in f cs ws w (at + n / 4) true (t .1) (omega arith)) refl
 
+-- and so from the start
 pub chunk-in : (ws : List ℕ) (cs : List Chunk) (w : ℕ) → Tiles ws 0 true cs → chunkOf ws w ≡ chunkIn cs 0 w
 unfolding chunkOf
 chunk-in ws cs w t = found-in (suc (length ws)) cs ws w 0 true t (omega arith)

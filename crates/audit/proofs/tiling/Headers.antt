@@ -2,7 +2,7 @@
 --     passed       what is known of a header that was not refused
 --     seen-free    a free chunk that is seen is one, and free-seen back; the same of used ones
 --     free-room    a chunk that is seen ends before the guard
-use Prim.Native.Nat.{ℕ, _+_, _-_, _*_, _/_, _%_, _≤_, _<_}
+use Prim.Native.Nat.{ℕ, _+_, _-_, _/_, _%_, _≤_, _<_}
 use mathlib.Core.Path.{_≡_, refl, sym, ap, _∙_}
 use mathlib.Core.Logic.{_⊎_, ⊎-elim, inl, inr}
 use mathlib.Core.List.{List}
@@ -23,6 +23,7 @@ unfolding pick
 pick-some true x z y e n = (refl, e)
 pick-some false x z y e n = absurd (n e)
 
+-- and of both
 pub pick-is : {A : Type 0} (b : Bool) (x z y : A) → pick b x z ≡ y → ((b ≡ true) × (x ≡ y)) ⊎ ((b ≡ false) × (z ≡ y))
 unfolding pick
 pick-is true x z y e = inl (refl, e)
@@ -32,9 +33,11 @@ pick-is false x z y e = inr (refl, e)
 pub free-not-bad : (n : ℕ) → Bad ≡ Free n → ⊥
 free-not-bad n e = let z : _≡_ {A = ℕ} 0 1 = cc in omega arith
 
+-- a used chunk is something
 pub used-not-bad : (n : ℕ) → Bad ≡ Used n → ⊥
 used-not-bad n e = let z : _≡_ {A = ℕ} 0 1 = cc in omega arith
 
+-- a free chunk is not used
 pub free-not-used : (m n : ℕ) → Free m ≡ Used n → ⊥
 free-not-used m n e = let z : _≡_ {A = ℕ} 0 1 = cc in omega arith
 
@@ -53,6 +56,7 @@ pub record Passed (ws : List ℕ) (at left : ℕ) (y : Seen) : Type 0 where
       ((2 ≤ getD ws at 0 % 4) × (Used (bytes (getD ws at 0)) ≡ y))
       ⊎ ((getD ws at 0 % 4 < 2) × (left ≡ 0 → ⊥) × (getD ws (at + bytes (getD ws at 0) / 4 - 1) 0 ≡ bytes (getD ws at 0)) × (Free (bytes (getD ws at 0)) ≡ y))
 
+-- each test that was passed
 pub passed : (ws : List ℕ) (at left : ℕ) (y : Seen) → (Bad ≡ y → ⊥) → seenAt ws at left ≡ y → Passed ws at left y
 unfolding seenAt
 passed ws at left y n e =
@@ -78,12 +82,15 @@ passed ws at left y n e =
 
 -- a header that is known not to be refused
 module _ (ws : List ℕ) (at left : ℕ) (n : Bad ≡ seenAt ws at left → ⊥) where
+  -- it lies in the words
   pub known-here : at < length ws
   known-here = omega (arith, passed ws at left (seenAt ws at left) n refl .fit)
 
+  -- one bit tells a used chunk
   pub known-used : 2 ≤ getD ws at 0 % 4 → Used (bytes (getD ws at 0)) ≡ seenAt ws at left
   known-used i = ⊎-elim (λ u. u .1) (λ v. absurd (omega (arith, v .0, i))) (passed ws at left (seenAt ws at left) n refl .kind)
 
+  -- and a free one
   pub known-free : getD ws at 0 % 4 < 2 → Free (bytes (getD ws at 0)) ≡ seenAt ws at left
   known-free i = ⊎-elim (λ u. absurd (omega (arith, u .0, i))) (λ v. v .3) (passed ws at left (seenAt ws at left) n refl .kind)
 
@@ -99,6 +106,7 @@ module _ (ws : List ℕ) (at left n : ℕ) where
       (q, record { least = omega (arith, p, q); eights = omega (arith, q); inside = omega (arith, p, q) }))
       (p .kind)
 
+  -- the same of a used chunk
   pub used-bytes : seenAt ws at left ≡ Used n → (bytes (getD ws at 0) ≡ n) × Room ws at n
   used-bytes e =
       let p = passed ws at left (Used n) (used-not-bad n) e in
@@ -113,6 +121,7 @@ module _ (ws : List ℕ) (at left n : ℕ) where
   pub free-room : seenAt ws at left ≡ Free n → Room ws at n
   free-room e = free-bytes e .1
 
+  -- the same of a used chunk
   pub used-room : seenAt ws at left ≡ Used n → Room ws at n
   used-room e = used-bytes e .1
 
@@ -127,6 +136,7 @@ module _ (ws : List ℕ) (at : ℕ) (l : Bool) (n : ℕ) where
       (λ v. absurd (free-not-used _ _ (v .3)))
       (p .kind)
 
+  -- the same of a free one
   pub seen-free : seenAt ws at (bit l) ≡ Free n → FreeAt ws at l n
   seen-free e =
       let p = passed ws at (bit l) (Free n) (free-not-bad n) e in
@@ -154,6 +164,7 @@ module _ (ws : List ℕ) (at : ℕ) (l : Bool) (n : ℕ) where
         k,
       )
 
+  -- the same of a free one
   pub free-seen : FreeAt ws at l n → seenAt ws at (bit l) ≡ Free n
   unfolding seenAt pick
   free-seen u =

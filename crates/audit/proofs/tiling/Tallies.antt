@@ -17,8 +17,9 @@ use Rattle.audit.specs.Layout.{Chunk, pick, Tiles, freeLinks}
 use Rattle.audit.specs.Walk.{Broken, Whole, seenAt, walk, tiledBy, tallied}
 use Rattle.audit.proofs.Counting.{same-or, same-bit, diff-bit}
 use Rattle.audit.proofs.tiling.Headers.{free-room, used-room}
-use Rattle.audit.proofs.tiling.Walks.{Going, going-bad, going-free, going-used, going-guard, going-no-guard, tiled-empty, tiled-complete}
+use Rattle.audit.proofs.tiling.Walks.{Going, going-bad, going-free, going-used, going-guard, going-no-guard, tiled-complete}
 
+-- THE LOOP'S INVARIANT, for all six classes
 pub record Tallying (ws : List ℕ) (at left sum top : ℕ) (frees : List ℕ) : Type 0 where
   pub here : at < length ws
   pub small : left ≤ 1
@@ -26,6 +27,7 @@ pub record Tallying (ws : List ℕ) (at left sum top : ℕ) (frees : List ℕ) :
   pub six : length frees ≡ 6
   pub each : (c : ℕ) → c < 6 → Going ws c at left sum top (getD frees c 0)
 
+-- at the start
 pub tallying-starts : (ws : List ℕ) → 0 < length ws → Tallying ws 0 1 0 0 (replicate 6 0)
 unfolding tiledBy
 tallying-starts ws h =
@@ -53,16 +55,19 @@ unfolding tallied pick
 tells-broken ws t e b c i = b c i ∙ rw e refl
 
 module _ (ws : List ℕ) (at left sum top : ℕ) (frees : List ℕ) (t : Tallying ws at left sum top frees) where
+  -- a class is a place of the tally, and its count fits
   pub tally-room : (k n : ℕ) → k ≡ classOf n → (k < 6) × (getD frees k 0 ≤ at)
   tally-room k n e =
       let i : k < 6 = omega (arith, e, class-below n) in
       (i, t .each k i .few)
 
   module _ (i : at + 1 < length ws) where
+    -- nothing legal is seen: there is no tiling
     pub tallying-bad : seenAt ws at left ≡ Bad → (c : ℕ) → c < 6 → tiledBy ws c ≡ Broken
     tallying-bad e c j = going-bad ws c at left sum top (getD frees c 0) (t .each c j) i e
 
     module _ (n : ℕ) where
+      -- past a used chunk
       pub tallying-used : seenAt ws at left ≡ Used n → Tallying ws (at + n / 4) 1 (sum + n) ((at + n / 4) * 4) frees
       tallying-used e =
           let b = used-room ws at left n e in
@@ -74,6 +79,7 @@ module _ (ws : List ℕ) (at left sum top : ℕ) (frees : List ℕ) (t : Tallyin
             each = (λ c j. going-used ws c at left sum top (getD frees c 0) n (t .each c j) i e);
           }
 
+      -- past a free chunk, which is counted
       pub tallying-free : (k : ℕ) → seenAt ws at left ≡ Free n → k ≡ classOf n → Tallying ws (at + n / 4) 0 sum top (set frees k (getD frees k 0 + 1))
       tallying-free k e q =
           let b = free-room ws at left n e in
@@ -101,22 +107,27 @@ module _ (ws : List ℕ) (at left sum top : ℕ) (frees : List ℕ) (t : Tallyin
               (same-or c k)
 
   module _ (i : length ws ≤ at + 1) where
+    -- the guard ends the tiling
     pub tallying-guard : getD ws at 0 ≡ 2 + left → (c : ℕ) → c < 6 → tiledBy ws c ≡ Whole sum top (getD frees c 0)
     tallying-guard e c j = going-guard ws c at left sum top (getD frees c 0) (t .each c j) i e
 
+    -- no guard, no tiling
     pub tallying-no-guard : (getD ws at 0 ≡ 2 + left → ⊥) → (c : ℕ) → c < 6 → tiledBy ws c ≡ Broken
     tallying-no-guard e c j = going-no-guard ws c at left sum top (getD frees c 0) (t .each c j) i e
 
 -- WHAT THE ANSWER SAYS
 module _ (ws : List ℕ) (t : Tally) (a : (c : ℕ) → c < 6 → tiledBy ws c ≡ tallied t c) where
+  -- no tiling
   pub tally-broken : t .whole ≡ false → tiledBy ws 0 ≡ Broken
   unfolding tallied pick
   tally-broken e = a 0 (omega arith) ∙ rw e refl
 
+  -- a tiling, with its sums
   pub tally-whole : t .whole ≡ true → (c : ℕ) → c < 6 → tiledBy ws c ≡ Whole (t .sum) (t .top) (getD (t .frees) c 0)
   unfolding tallied pick
   tally-whole e c i = a c i ∙ rw e refl
 
+  -- and as many free chunks of each class as were counted
   pub tally-many : t .whole ≡ true → (cs : List Chunk) → Tiles ws 0 true cs → (c : ℕ) → c < 6 → getD (t .frees) c 0 ≡ length (freeLinks c 0 cs)
   tally-many e cs z c i =
       let q = sym (tally-whole e c i) ∙ tiled-complete ws cs c z in

@@ -2,7 +2,7 @@
 --     fits-..       the test's three ways, by the wrapping differences that the code takes
 --     fits-in       in the window the test is whether the link names a free chunk of the class
 --     Showing       every listed link below `at` names a free chunk of its class
-use Prim.Native.Nat.{ℕ, zero, suc, _+_, _-_, _*_, _/_, _%_, _^_, _≤_, _<_}
+use Prim.Native.Nat.{ℕ, zero, suc, _+_, _-_, _%_, _^_, _≤_, _<_}
 use mathlib.Core.Path.{_≡_, refl, sym, ap, _∙_}
 use mathlib.Core.Logic.{⊎-elim}
 use mathlib.Core.List.{List}
@@ -19,7 +19,7 @@ use Rattle.audit.specs.declared.windows.Stand.{Stand}
 use Rattle.audit.specs.Layout.{pick}
 use Rattle.audit.specs.Walk.{bytes, chunkOf}
 use Rattle.audit.specs.Rings.{count, nextOf, listOf}
-use Rattle.audit.specs.Window.{markedᵇ, isFree, Standing, Window, fitsᵇ, allᵇ, freeSeen, freeOf, Ringed, Listed}
+use Rattle.audit.specs.Window.{markedᵇ, isFree, Standing, Window, fitsᵇ, allᵇ, freeSeen, freeOf, AllFit, Ringed, Listed}
 use Rattle.audit.proofs.Counting.{same-or, same-bit, le-or-lt}
 use Rattle.audit.proofs.tiling.Headers.{pick-some, free-not-bad, free-bytes}
 use Rattle.audit.proofs.tiling.Finds.{found-seen}
@@ -37,31 +37,37 @@ unfolding freeOf pick
 free-of-at ws c k y i e = simp (le-ltb k 6 i, e)
 
 -- what the wrapping differences say of a link in the window
-pub in-range : (from to k w d : ℕ) → from ≤ to → to < 2 ^ 63 → k < 2 ^ 64 → w < 2 ^ 64 → d < 2 ^ 64 → (w + 6) % 2 ^ 64 ≡ k → (d + from) % 2 ^ 64 ≡ w → d < to - from → (6 ≤ k) × (from ≤ k - 6) × (k - 6 < to) × (k - 6 ≡ w) × (k - 6 - from ≡ d)
+pub in-range : (from to k w d : ℕ) → from ≤ to → to < 2 ^ 63 → k < 2 ^ 64 → w < 2 ^ 64 → d < 2 ^ 64 → (w + 6) % 2 ^ 64 ≡ k
+    → (d + from) % 2 ^ 64 ≡ w → d < to - from → (6 ≤ k) × (from ≤ k - 6) × (k - 6 < to) × (k - 6 ≡ w) × (k - 6 - from ≡ d)
 in-range from to k w d a b kb wb db e f g =
     let x : d + from ≡ w = omega arith in
     let y : w + 6 ≡ k = omega arith in
     (omega arith, omega arith, omega arith, omega arith, omega arith)
 
 module _ (ws ms : List ℕ) (c from to k : ℕ) where
+  -- a word before the window
   pub fits-low : 6 ≤ k → k - 6 < from → fitsᵇ ws ms c from to k ≡ true
   unfolding fitsᵇ pick
   fits-low i j = simp (le-ltb k 6 i, lt-ltb (k - 6) from j)
 
+  -- a word after it
   pub fits-high : 6 ≤ k → from ≤ k - 6 → to ≤ k - 6 → fitsᵇ ws ms c from to k ≡ true
   unfolding fitsᵇ pick
   fits-high i j l = simp (le-ltb k 6 i, le-ltb (k - 6) from j, le-leb to (k - 6) l)
 
+  -- a sentinel
   fits-none : k < 6 → fitsᵇ ws ms c from to k ≡ true
   unfolding fitsᵇ pick
   fits-none i = simp (lt-ltb k 6 i)
 
+  -- a word of the window
   pub fits-here : 6 ≤ k → from ≤ k - 6 → k - 6 < to → fitsᵇ ws ms c from to k ≡ pick (markedᵇ ms (k - 6 - from)) (eqb (classOf (bytes (getD ws (k - 6) 0))) c) false
   unfolding fitsᵇ pick
   fits-here i j l = simp (le-ltb k 6 i, le-ltb (k - 6) from j, lt-leb to (k - 6) l)
 
   -- and of one outside
-  pub fits-out : (w d : ℕ) → from ≤ to → k < 2 ^ 64 → w < 2 ^ 64 → d < 2 ^ 64 → (w + 6) % 2 ^ 64 ≡ k → (d + from) % 2 ^ 64 ≡ w → to - from ≤ d → fitsᵇ ws ms c from to k ≡ true
+  pub fits-out : (w d : ℕ) → from ≤ to → k < 2 ^ 64 → w < 2 ^ 64 → d < 2 ^ 64 → (w + 6) % 2 ^ 64 ≡ k → (d + from) % 2 ^ 64 ≡ w
+      → to - from ≤ d → fitsᵇ ws ms c from to k ≡ true
   fits-out w d a kb wb db e f g =
       ⊎-elim
       (λ i. ⊎-elim
@@ -75,10 +81,12 @@ module _ (ws ms : List ℕ) (c from to k : ℕ) where
       (le-or-lt 6 k)
 
   module _ (w d : ℕ) (r : (6 ≤ k) × (from ≤ k - 6) × (k - 6 < to) × (k - 6 ≡ w) × (k - 6 - from ≡ d)) where
+    -- one that is not marked
     pub fits-no : markedᵇ ms d ≡ false → fitsᵇ ws ms c from to k ≡ false
     unfolding pick
     fits-no e = fits-here (r .0) (r .1) (r .2) ∙ rw (r .4, e) refl
 
+    -- one that is
     pub fits-yes : (n : ℕ) → markedᵇ ms d ≡ true → n ≡ classOf (bytes (getD ws w 0)) → fitsᵇ ws ms c from to k ≡ eqb n c
     unfolding pick
     fits-yes n e q = fits-here (r .0) (r .1) (r .2) ∙ rw (r .4, e, r .3, q) refl
@@ -95,6 +103,7 @@ module _ (ws ms : List ℕ) (c from to k : ℕ) where
 
 -- THE FIRST n LINKS, each passing a test
 module _ (next : ℕ → ℕ) (ok : ℕ → Bool) where
+  -- if all pass, each does
   pub all-sound : (n from : ℕ) → allᵇ next ok n from ≡ true → (x : ℕ) → 0 < count x (listOf next n from) → ok x ≡ true
   unfolding allᵇ listOf
   all-sound zero from e x h = absurd (omega arith)
@@ -102,6 +111,7 @@ module _ (next : ℕ → ℕ) (ok : ℕ → Bool) where
       let g = pick-some _ _ _ _ e false≢true in
       ⊎-elim (λ s. ap ok (s .0) ∙ g .0) (λ s. all-sound n (next from) (g .1) x (omega (arith, h, s .1))) (same-or x (next from))
 
+  -- and back
   pub all-complete : (n from : ℕ) → ((x : ℕ) → 0 < count x (listOf next n from) → ok x ≡ true) → allᵇ next ok n from ≡ true
   unfolding allᵇ listOf pick
   all-complete zero from g = refl
@@ -115,11 +125,13 @@ module _ (next : ℕ → ℕ) (ok : ℕ → Bool) where
   all-end zero k i = refl
   all-end (suc n) k i = absurd (omega arith)
 
+  -- the next link does not pass
   pub all-stop : (n k j : ℕ) → 0 < n → j ≡ next k → ok j ≡ false → allᵇ next ok n k ≡ false
   unfolding allᵇ pick
   all-stop zero k j i e b = absurd (omega arith)
   all-stop (suc n) k j i e b = rw (sym e, b) refl
 
+  -- the next link passes
   pub all-on : (n k j : ℕ) → 0 < n → j ≡ next k → ok j ≡ true → allᵇ next ok n k ≡ allᵇ next ok (n - 1) j
   unfolding allᵇ pick
   all-on zero k j i e b = absurd (omega arith)
@@ -132,13 +144,15 @@ pub record Showing (next : List Link) (ws frees : List ℕ) (at left : ℕ) : Ty
   pub good : (c : ℕ) → c < 6 → (x : ℕ) → 0 < count x (listOf (nextOf next ws) (getD frees c 0) c) → x - 6 < at → freeOf ws c x ≡ true
 
 module _ (next : List Link) (ws frees : List ℕ) (g : Ringed next ws frees) where
+  -- at the start
   pub showing-starts : Showing next ws frees 0 1
   showing-starts =
       let z = standing-starts ws (g .layout) (g .tiles) in
       record { standing = z; here = standing-here ws 0 1 z; good = (λ c i x k j. absurd (omega (arith, j))) }
 
   module _ (ms : List ℕ) (at : ℕ) (r : Stand) (w : Window ws ms at r) where
-    pub showing-on : (left : ℕ) → Showing next ws frees at left → ((c : ℕ) → c < 6 → allᵇ (nextOf next ws) (fitsᵇ ws ms c at (r .at)) (getD frees c 0) c ≡ true) → Showing next ws frees (r .at) (r .left)
+    -- a window on
+    pub showing-on : (left : ℕ) → Showing next ws frees at left → AllFit next ws ms frees at (r .at) → Showing next ws frees (r .at) (r .left)
     showing-on left s a =
         record {
           standing = w .standing;
@@ -152,7 +166,8 @@ module _ (next : List Link) (ws frees : List ℕ) (g : Ringed next ws frees) whe
               (le-or-lt at (x - 6)));
         }
 
-    pub listed-fit : Listed next ws frees → (c : ℕ) → c < 6 → allᵇ (nextOf next ws) (fitsᵇ ws ms c at (r .at)) (getD frees c 0) c ≡ true
+    -- where the lists hold free chunks of their classes only, they fit each window
+    pub listed-fit : Listed next ws frees → AllFit next ws ms frees at (r .at)
     listed-fit p c i =
         all-complete (nextOf next ws) (fitsᵇ ws ms c at (r .at)) (getD frees c 0) c
         (λ x k.
@@ -165,5 +180,6 @@ module _ (next : List Link) (ws frees : List ℕ) (g : Ringed next ws frees) whe
         (λ l. fits-low ws ms c at (r .at) x b l)
         (le-or-lt at (x - 6)))
 
+  -- at the guard all links are shown
   pub all-shown : (at left : ℕ) → Showing next ws frees at left → length ws ≤ at + 1 → Listed next ws frees
   all-shown at left s e c i x k = s .good c i x k (omega (arith, e, g .inside c i x k .1))

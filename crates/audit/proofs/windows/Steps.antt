@@ -27,6 +27,7 @@ chunk-early [] a w i = refl
 chunk-early (free n ∷ cs) a w i = simp (le-ltb a w (omega arith), ne-eqb a w (omega arith))
 chunk-early (used n ∷ cs) a w i = simp (le-ltb a w (omega arith), ne-eqb a w (omega arith))
 
+-- what a step shows: where the walk stands next, what was here, and that between the two no header is
 pub record Onward (ws : List ℕ) (at s left : ℕ) (y : Seen) : Type 0 where
   pub next : Standing ws (at + s) left
   pub here : chunkOf ws at ≡ y
@@ -35,7 +36,8 @@ pub record Onward (ws : List ℕ) (at s left : ℕ) (y : Seen) : Type 0 where
   pub fit : at + s < length ws
 
 -- one chunk on, from the layout
-past-free : (ws : List ℕ) (at n : ℕ) (l : Bool) (cs : List Chunk) → Tiles ws at l (free n ∷ cs) → ((w : ℕ) → at ≤ w → chunkOf ws w ≡ chunkIn (free n ∷ cs) at w) → Onward ws at (n / 4) 0 (Free n)
+past-free : (ws : List ℕ) (at n : ℕ) (l : Bool) (cs : List Chunk) → Tiles ws at l (free n ∷ cs)
+    → ((w : ℕ) → at ≤ w → chunkOf ws w ≡ chunkIn (free n ∷ cs) at w) → Onward ws at (n / 4) 0 (Free n)
 unfolding chunkIn pick
 past-free ws at n l cs t f =
     record {
@@ -46,7 +48,9 @@ past-free ws at n l cs t f =
       fit = t .0 .room .inside;
     }
 
-past-used : (ws : List ℕ) (at n : ℕ) (l : Bool) (cs : List Chunk) → Tiles ws at l (used n ∷ cs) → ((w : ℕ) → at ≤ w → chunkOf ws w ≡ chunkIn (used n ∷ cs) at w) → Onward ws at (n / 4) 1 (Used n)
+-- the same past a used one
+past-used : (ws : List ℕ) (at n : ℕ) (l : Bool) (cs : List Chunk) → Tiles ws at l (used n ∷ cs)
+    → ((w : ℕ) → at ≤ w → chunkOf ws w ≡ chunkIn (used n ∷ cs) at w) → Onward ws at (n / 4) 1 (Used n)
 unfolding chunkIn pick
 past-used ws at n l cs t f =
     record {
@@ -58,6 +62,7 @@ past-used ws at n l cs t f =
     }
 
 module _ (ws : List ℕ) (at left : ℕ) (z : Standing ws at left) (i : at + 1 < length ws) where
+  -- where a free chunk is seen, there is one, and its left neighbour is used
   pub on-free : (s : ℕ) → seenAt ws at left ≡ Free s → Onward ws at (s / 4) 0 (Free s) × (left ≡ 1)
   on-free s e = go (z .layout) (z .tiles) (z .found)
     where
@@ -72,6 +77,7 @@ module _ (ws : List ℕ) (at left : ℕ) (z : Standing ws at left) (i : at + 1 <
           (subst (λ (x : ℕ). Onward ws at (x / 4) 0 (Free x)) k (past-free ws at n (z .side) cs t f), z .isLeft ∙ ap bit (t .0 .apart))
       go (used n ∷ cs) t f = absurd (free-not-used _ _ (sym e′ ∙ used-seen ws at (z .side) n (t .0)))
 
+  -- where a used chunk is seen, there is one
   pub on-used : (s : ℕ) → seenAt ws at left ≡ Used s → Onward ws at (s / 4) 1 (Used s)
   on-used s e = go (z .layout) (z .tiles) (z .found)
     where
@@ -86,6 +92,7 @@ module _ (ws : List ℕ) (at left : ℕ) (z : Standing ws at left) (i : at + 1 <
           let k : n ≡ s = cc (q) in
           subst (λ (x : ℕ). Onward ws at (x / 4) 1 (Used x)) k (past-used ws at n (z .side) cs t f)
 
+  -- something is seen
   pub on-bad : seenAt ws at left ≡ Bad → ⊥
   on-bad e = go (z .layout) (z .tiles)
     where
@@ -97,9 +104,11 @@ module _ (ws : List ℕ) (at left : ℕ) (z : Standing ws at left) (i : at + 1 <
       go (free n ∷ cs) t = free-not-bad _ (sym e′ ∙ free-seen ws at (z .side) n (t .0))
       go (used n ∷ cs) t = used-not-bad _ (sym e′ ∙ used-seen ws at (z .side) n (t .0))
 
+-- a walk stands at the start
 pub standing-starts : (ws : List ℕ) (cs : List Chunk) → Tiles ws 0 true cs → Standing ws 0 1
 standing-starts ws cs t = record { layout = cs; side = true; isLeft = refl; tiles = t; found = (λ w i. chunk-in ws cs w t) }
 
+-- and always in the words
 pub standing-here : (ws : List ℕ) (at left : ℕ) → Standing ws at left → at < length ws
 standing-here ws at left z = go (z .layout) (z .tiles)
   where
@@ -117,6 +126,7 @@ pub record Marking (ws ms : List ℕ) (from at left : ℕ) : Type 0 where
   pub ahead : (d : ℕ) → at ≤ from + d → markedᵇ ms d ≡ false
   pub apart : (w : ℕ) → from ≤ w → w < at → isFree (chunkOf ws w) ≡ true → w + 4 + 4 * left ≤ at
 
+-- at the start of the window
 pub marking-starts : (ws ms : List ℕ) (from left : ℕ) → Standing ws from left → ((i : ℕ) → getD ms i 0 ≡ 0) → Marking ws ms from from left
 marking-starts ws ms from left z b =
     record {
@@ -128,11 +138,13 @@ marking-starts ws ms from left z b =
       apart = (λ w i j e. absurd (omega (arith, i, j)));
     }
 
+-- a word before, at or after another
 by-place : {P : Type 0} (w at : ℕ) → (w < at → P) → (w ≡ at → P) → (at < w → P) → P
 by-place w at f g h = ⊎-elim (λ i. ⊎-elim (λ s. g (s .0)) (λ s. h (omega (arith, i, s .0))) (same-or w at)) f (le-or-lt at w)
 
 module _ (ws ms : List ℕ) (from at left : ℕ) (m : Marking ws ms from at left) where
   module _ (s n : ℕ) (o : Onward ws at s 0 (Free n)) (l : left ≡ 1) (h : (at - from) / 16 < length ms) where
+    -- no other free header is in the same eight words
     lone : (w : ℕ) → from ≤ w → w < at → (w - from) / 8 ≡ (at - from) / 8 → markedᵇ ms (w - from) ≡ false
     lone w i j q =
         ⊎-elim
@@ -140,9 +152,11 @@ module _ (ws ms : List ℕ) (from at left : ℕ) (m : Marking ws ms from at left
         (λ e. m .right w i j ∙ e)
         (true-or-false (isFree (chunkOf ws w)))
 
+    -- the places ahead stay unmarked
     kept : (d : ℕ) → at ≤ from + d → (d ≡ at - from → ⊥) → markedᵇ (withMark ms (at - from)) d ≡ false
     kept d i n = mark-other ms (at - from) h d n (λ q. m .ahead d i) ∙ m .ahead d i
 
+    -- past a free chunk, which is marked
     pub marking-free : Marking ws (withMark ms (at - from)) from (at + s) 0
     unfolding isFree
     marking-free =
@@ -163,6 +177,7 @@ module _ (ws ms : List ℕ) (from at left : ℕ) (m : Marking ws ms from at left
               (λ k. absurd (false≢true (sym (ap isFree (o .gap w k j)) ∙ e))));
         }
 
+  -- past a used chunk
   pub marking-used : (s n : ℕ) → Onward ws at s 1 (Used n) → Marking ws ms from (at + s) 1
   unfolding isFree
   marking-used s n o =

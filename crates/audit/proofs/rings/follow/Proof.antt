@@ -29,18 +29,27 @@ prev-of-requires c κs = search needs
 
 returns : tie.Need-returns Inv-loop μ-loop
 unfolding nextOf prevOf
-returns c = sym (not-back _ _ _ _ _ _ _ _ (c .before .before .before .before .before .before .loop .inv) (omega arith) _ _ (c .before .before .before .before .next-of .ensures) (c .before .before .before .prev-of .ensures) (c .if1 .taken))
+returns c =
+    sym
+    (not-back _ _ _ _ _ _ _ _ (c .before .before .before .before .before .before .loop .inv) (omega arith) _ _ (c .before .before .before .before .next-of .ensures) (c .before .before .before .prev-of .ensures)
+    (c .if1 .taken))
 
 returns-2 : tie.Need-returns-2 Inv-loop μ-loop
 unfolding nextOf prevOf
-returns-2 c = sym (at-end _ _ _ _ _ _ _ _ (c .before .before .before .before .before .before .before .before .loop .inv) (omega arith) _ _ (c .before .before .before .before .before .before .next-of .ensures) (c .before .before .before .before .before .prev-of .ensures) (c .before .before .if1 .left) (c .if2 .taken))
+returns-2 c =
+    sym
+    (at-end _ _ _ _ _ _ _ _ (c .before .before .before .before .before .before .before .before .loop .inv) (omega arith) _ _ (c .before .before .before .before .before .before .next-of .ensures) (c .before .before .before .before .before .prev-of .ensures)
+    (c .before .before .if1 .left) (c .if2 .taken))
 
 inside-requires : tie.Need-inside-requires Inv-loop μ-loop
 inside-requires c κs = search needs
 
 returns-3 : tie.Need-returns-3 Inv-loop μ-loop
 unfolding nextOf prevOf
-returns-3 c = sym (not-ok _ _ _ _ _ _ _ _ (c .before .before .before .before .before .before .before .before .before .before .loop .inv) (omega arith) _ _ (c .before .before .before .before .before .before .before .before .next-of .ensures) (c .before .before .before .before .before .before .before .prev-of .ensures) (c .before .before .before .before .if1 .left) (c .before .before .if2 .left) (sym (c .before .inside .ensures) ∙ not-true _ (c .if3 .taken)))
+returns-3 c =
+    sym
+    (not-ok _ _ _ _ _ _ _ _ (c .before .before .before .before .before .before .before .before .before .before .loop .inv) (omega arith) _ _ (c .before .before .before .before .before .before .before .before .next-of .ensures) (c .before .before .before .before .before .before .before .prev-of .ensures)
+    (c .before .before .before .before .if1 .left) (c .before .before .if2 .left) (sym (c .before .inside .ensures) ∙ not-true _ (c .if3 .taken)))
 
 add-n : tie.Need-add-n Inv-loop μ-loop
 add-n c = omega arith
@@ -50,7 +59,9 @@ loop-less c = omega arith
 
 loop-again : tie.Need-loop-again Inv-loop μ-loop
 unfolding nextOf prevOf
-loop-again c = goes-on _ _ _ _ _ _ _ _ (c .before .before .before .before .before .before .before .before .before .before .loop .inv) (omega arith) _ _ (c .before .before .before .before .before .before .before .before .next-of .ensures) (c .before .before .before .before .before .before .before .prev-of .ensures) (c .before .before .before .before .if1 .left) (c .before .before .if2 .left) (sym (c .before .inside .ensures) ∙ not-false _ (c .if3 .left))
+loop-again c =
+    goes-on _ _ _ _ _ _ _ _ (c .before .before .before .before .before .before .before .before .before .before .loop .inv) (omega arith) _ _ (c .before .before .before .before .before .before .before .before .next-of .ensures) (c .before .before .before .before .before .before .before .prev-of .ensures)
+    (c .before .before .before .before .if1 .left) (c .before .before .if2 .left) (sym (c .before .inside .ensures) ∙ not-false _ (c .if3 .left))
 
 returns-4 : tie.Need-returns-4 Inv-loop μ-loop
 returns-4 c = sym (ran-out _ _ _ _ _ _ _ _ (c .before .loop .inv) (omega arith))

@@ -1,8 +1,8 @@
 -- `audit::rings::inside` meets its contract, test by test.
 use borrow.Author.Needs.{needs}
 use borrow.Author.Tests.{lt-ltb, le-ltb}
-use Rattle.audit.specs.Layout.{pick}
 use Rattle.audit.specs.Rings.{insideᵇ}
+use Rattle.audit.specs.Layout.{pick}
 use Rattle.audit.proofs.rings.inside.Statement.{statement}
 use Rattle.audit.proofs.rings.inside.Tie as tie
 

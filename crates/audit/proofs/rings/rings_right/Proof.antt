@@ -3,8 +3,8 @@ use Prim.Native.Nat.{ℕ, _≤_, _<_, _-_}
 use mathlib.Core.Path.{_≡_, sym, ap, _∙_}
 use native.Mathlib.Omega.{arith}
 use lib.ListN.{getD}
-use borrow.Author.Needs.{needs}
 use borrow.Author.Count.{below-none, below-more}
+use borrow.Author.Needs.{needs}
 use Rattle.audit.specs.declared.rings.Followed.the-variants.{Long}
 use Rattle.audit.specs.Rings.{chained}
 use Rattle.audit.proofs.rings.Chases.{cut-not-long, long-is}

@@ -5,11 +5,11 @@ use mathlib.Core.Path.{sym, _∙_}
 use native.Mathlib.Omega.{arith}
 use lib.ListN.{length}
 use borrow.Author.Needs.{needs}
-use Rattle.audit.specs.Layout.{pick}
 use Rattle.audit.specs.Walk.{tallied}
+use Rattle.audit.specs.Layout.{pick}
+use Rattle.audit.proofs.tiling.Walks.{tiled-empty}
 use Rattle.audit.proofs.tiling.Tallies.{Tallying, tallying-starts, tells-broken, tally-room, tallying-bad, tallying-free, tallying-used, tallying-guard, tallying-no-guard}
 use Rattle.audit.proofs.tiling.Headers.{free-room, used-room}
-use Rattle.audit.proofs.tiling.Walks.{tiled-empty}
 use Rattle.audit.proofs.tiling.count_chunks.Statement.{statement}
 use Rattle.audit.proofs.tiling.count_chunks.Tie as tie
 
@@ -41,7 +41,9 @@ no-tiling-requires-2 : tie.Need-no-tiling-requires-2 Inv-loop μ-loop
 no-tiling-requires-2 c κs = search needs
 
 returns-2 : tie.Need-returns-2 Inv-loop μ-loop
-returns-2 c = tells-broken _ _ (c .no-tiling2 .ensures) (tallying-bad _ _ _ _ _ _ (c .before .before .before .before .before .loop .inv) (c .before .before .before .before .loop-test .taken) (sym (c .before .before .before .seen-at .ensures) ∙ c .before .enum-told .given .1))
+returns-2 c =
+    tells-broken _ _ (c .no-tiling2 .ensures)
+    (tallying-bad _ _ _ _ _ _ (c .before .before .before .before .before .loop .inv) (c .before .before .before .before .loop-test .taken) (sym (c .before .before .before .seen-at .ensures) ∙ c .before .enum-told .given .1))
 
 enum-known-seen : tie.Need-enum-known-seen Inv-loop μ-loop
 enum-known-seen c = search needs
@@ -77,7 +79,9 @@ loop-less : tie.Need-loop-less Inv-loop μ-loop
 loop-less c = omega (arith, free-room _ _ _ _ (sym (c .before .before .before .before .seen-at .ensures) ∙ c .before .before .seen .given .1))
 
 loop-again : tie.Need-loop-again Inv-loop μ-loop
-loop-again c = tallying-free _ _ _ _ _ _ (c .before .before .before .before .before .before .loop .inv) (c .before .before .before .before .before .loop-test .taken) _ _ (sym (c .before .before .before .before .seen-at .ensures) ∙ c .before .before .seen .given .1) (c .chunk-size-to-list-index .ensures)
+loop-again c =
+    tallying-free _ _ _ _ _ _ (c .before .before .before .before .before .before .loop .inv) (c .before .before .before .before .before .loop-test .taken) _ _
+    (sym (c .before .before .before .before .seen-at .ensures) ∙ c .before .before .seen .given .1) (c .chunk-size-to-list-index .ensures)
 
 enum-known-seen-2 : tie.Need-enum-known-seen-2 Inv-loop μ-loop
 enum-known-seen-2 c = search needs

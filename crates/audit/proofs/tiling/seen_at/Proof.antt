@@ -1,9 +1,9 @@
 -- `audit::tiling::seen_at` meets its contract: the code makes the tests of `seenAt`, in its order.
 use native.Mathlib.Omega.{arith}
-use borrow.Author.Needs.{needs}
 use borrow.Author.Tests.{le-ltb, lt-ltb, le-leb, lt-leb, eq-eqb, ne-eqb}
-use Rattle.audit.specs.Walk.{seenAt}
+use borrow.Author.Needs.{needs}
 use Rattle.audit.specs.Layout.{pick}
+use Rattle.audit.specs.Walk.{seenAt}
 use Rattle.audit.proofs.tiling.seen_at.Statement.{statement}
 use Rattle.audit.proofs.tiling.seen_at.Tie as tie
 

@@ -1,11 +1,11 @@
 -- `audit::windows::lists_right` meets its contract. Invariant: every listed link below here names a free chunk of its class. Measure: the words ahead.
 use Prim.Native.Nat.{_-_}
-use mathlib.Core.Bool.{false≢true}
 use mathlib.Core.Path.{sym, _∙_}
+use mathlib.Core.Bool.{false≢true}
 use native.Mathlib.Omega.{arith}
 use lib.ListN.{length}
-use borrow.Author.Tests.{not-true, not-false}
 use borrow.Author.Needs.{needs}
+use borrow.Author.Tests.{not-true, not-false}
 use Rattle.audit.proofs.windows.Lists.{Showing, showing-starts, showing-on, listed-fit, all-shown}
 use Rattle.audit.proofs.windows.Marks.{zeros}
 use Rattle.audit.proofs.Counting.{refused, granted}
@@ -38,13 +38,18 @@ window-right-requires : tie.Need-window-right-requires Inv-loop μ-loop
 window-right-requires c κs = (omega (arith, c .before .before .mark .ensures .further), omega (arith, standing-here _ _ _ (c .before .before .mark .ensures .standing)))
 
 returns : tie.Need-returns Inv-loop μ-loop
-returns c = refused (λ p. false≢true (sym (not-true _ (c .if1 .taken)) ∙ c .before .window-right .ensures .1 (listed-fit _ _ _ (c .before .before .before .before .before .before .before .before .before .pre) _ _ _ (c .before .before .before .before .mark .ensures) p)))
+returns c =
+    refused
+    (λ p. false≢true (sym (not-true _ (c .if1 .taken)) ∙ c .before .window-right .ensures .1
+    (listed-fit _ _ _ (c .before .before .before .before .before .before .before .before .before .pre) _ _ _ (c .before .before .before .before .mark .ensures) p)))
 
 loop-less : tie.Need-loop-less Inv-loop μ-loop
 loop-less c = omega (arith, c .before .before .before .before .mark .ensures .further)
 
 loop-again : tie.Need-loop-again Inv-loop μ-loop
-loop-again c = showing-on _ _ _ (c .before .before .before .before .before .before .before .before .before .pre) _ _ _ (c .before .before .before .before .mark .ensures) _ (c .before .before .before .before .before .before .before .loop .inv) (c .before .window-right .ensures .0 (not-false _ (c .if1 .left)))
+loop-again c =
+    showing-on _ _ _ (c .before .before .before .before .before .before .before .before .before .pre) _ _ _ (c .before .before .before .before .mark .ensures) _ (c .before .before .before .before .before .before .before .loop .inv)
+    (c .before .window-right .ensures .0 (not-false _ (c .if1 .left)))
 
 returns-2 : tie.Need-returns-2 Inv-loop μ-loop
 returns-2 c = granted (all-shown _ _ _ (c .before .before .before .pre) _ _ (c .before .loop .inv) (c .loop-test .left))

@@ -4,11 +4,11 @@ use mathlib.Core.Path.{_≡_, sym, _∙_}
 use mathlib.Core.Bool.{true, false≢true}
 use native.Mathlib.Omega.{arith}
 use lib.ListN.{getD}
-use borrow.Author.Tests.{not-true, not-false}
-use borrow.Author.Needs.{needs}
 use borrow.Author.Count.{below-none, below-more}
-use Rattle.audit.specs.Rings.{nextOf}
+use borrow.Author.Needs.{needs}
+use borrow.Author.Tests.{not-true, not-false}
 use Rattle.audit.specs.Window.{fitsᵇ, allᵇ}
+use Rattle.audit.specs.Rings.{nextOf}
 use Rattle.audit.proofs.Counting.{refused, granted}
 use Rattle.audit.proofs.windows.window_right.Statement.{statement}
 use Rattle.audit.proofs.windows.window_right.Tie as tie
