@@ -192,6 +192,10 @@ pub release-rest : (s : State) (w n : ℕ) → releaseChunk base s w n .rest ≡
 unfolding releaseChunk merged link clearLeft markFree
 release-rest s w n = merge-rest s _ _ _ _
 
+-- what was in use is kept by taking, until it is counted
+pub in-use-kept : (r a : Record) (ws ws1 : List ℕ) (w n z : ℕ) → seen a ws1 ≡ takeChunk base (seen r ws) w n z → a .«in_use» ≡ r .«in_use»
+in-use-kept r a ws ws1 w n z e = ap (λ (s : State). s .rest .inUse) e ∙ ap (λ (f : Figures). f .inUse) (take-rest (seen r ws) w n z)
+
 module _ (r : Record) (ws : List ℕ) (z : ℕ) (h : Served (seen r ws) z) where
   pub found-safe : (x c : ℕ) → rule.at x c ≡ firstFit base 1 soundAt (seen r ws) z → FoundFits base (seen r ws) z x c
   found-safe x c e = found-fitsᵇ ours (seen r ws) (h .sound) soundAt z x c (sym e)
@@ -262,25 +266,23 @@ module _ (r : Record) (ws : List ℕ) (p : ℕ) where
   unfolding live
   live-low h = rw (lt-leb _ _ h) refl
 
-  pub live-cached : (l : ℕ) → 4 ≤ p → l ≡ r .cached .0 → (l ≡ 0 → ⊥) → (p - 4) / 4 + 6 ≡ l → 0 ≡ live base 1 soundAt (seen r ws) p
+  pub live-cached : (l : ℕ) → 4 ≤ p → l ≡ r .cached .0 → (p - 4) / 4 + 6 ≡ l → 0 ≡ live base 1 soundAt (seen r ws) p
   unfolding live listed
-  live-cached l h el n e =
-      let n′ : r .cached .0 ≡ 0 → ⊥ = λ q. n (el ∙ q) in
+  live-cached l h el e =
+      let n : r .cached .0 ≡ 0 → ⊥ = λ q. omega arith in
       let e′ : (p - 4) / 4 + 6 ≡ r .cached .0 = e ∙ el in
-      rw (le-leb _ _ h, ne-eqb _ _ n′, eq-eqb _ _ e′) refl
+      rw (le-leb _ _ h, ne-eqb _ _ n, eq-eqb _ _ e′) refl
 
-  pub live-other : (l v : ℕ) → 4 ≤ p → l ≡ r .cached .0 → (l ≡ 0 → ⊥) → ((p - 4) / 4 + 6 ≡ l → ⊥) → v ≡ usedWalk (at ws) (length ws) 0 (p - 4) → v ≡ live base 1 soundAt (seen r ws) p
+  pub live-other : (l v : ℕ) → 4 ≤ p → l ≡ r .cached .0 → ((p - 4) / 4 + 6 ≡ l → ⊥) → v ≡ usedWalk (at ws) (length ws) 0 (p - 4) → v ≡ live base 1 soundAt (seen r ws) p
   unfolding live listed
-  live-other l v h el n d ev =
-      let n′ : r .cached .0 ≡ 0 → ⊥ = λ q. n (el ∙ q) in
-      let d′ : (p - 4) / 4 + 6 ≡ r .cached .0 → ⊥ = λ q. d (q ∙ sym el) in
-      rw (le-leb _ _ h, ne-eqb _ _ n′, ne-eqb _ _ d′) ev
+  live-other l v h el d ev = go (ℕ-discrete (r .cached .0) 0)
+    where
+      d′ : (p - 4) / 4 + 6 ≡ r .cached .0 → ⊥
+      d′ q = d (q ∙ sym el)
 
-  pub live-bare : (l v : ℕ) → 4 ≤ p → l ≡ r .cached .0 → l ≡ 0 → v ≡ usedWalk (at ws) (length ws) 0 (p - 4) → v ≡ live base 1 soundAt (seen r ws) p
-  unfolding live listed
-  live-bare l v h el n ev =
-      let n′ : r .cached .0 ≡ 0 = sym el ∙ n in
-      rw (le-leb _ _ h, eq-eqb _ _ n′) ev
+      go : Dec (r .cached .0 ≡ 0) → v ≡ live base 1 soundAt (seen r ws) p
+      go (yes z) = rw (le-leb _ _ h, eq-eqb _ _ z) ev
+      go (no n) = rw (le-leb _ _ h, ne-eqb _ _ n, ne-eqb _ _ d′) ev
 
 -- ---- TAKEN BACK
 

@@ -124,10 +124,8 @@ impl Record {
             return 0;
         }
         let cached = self.cached.0 as u32;
-        if cached != 0 {
-            if (p - 4) / 4 + 6 == cached {
-                return 0;
-            }
+        if (p - 4) / 4 + 6 == cached {
+            return 0;
         }
         used_length(heap, p - 4)
     }

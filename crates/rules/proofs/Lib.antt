@@ -31,7 +31,9 @@ pub mod Base
 pub mod Decide
 pub mod Editions
 pub mod Exactly
+pub mod Cases
 pub mod Demands
 pub mod Runs
 pub mod Bounds
 pub mod Proved
+pub mod Examples

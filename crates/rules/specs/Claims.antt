@@ -1,21 +1,22 @@
--- THE DEMANDS, as statements; proofs/Proved.antt proves each, for both link widths and any number of cache places.
+-- THE DEMANDS, as statements about the rules; proofs/Proved.antt proves each, for both link widths and any number of cache places.
 use mathlib.Core.Path.{_≡_}
 use mathlib.Core.Logic.{_≢_}
 use mathlib.Core.Bool.{true}
-use mathlib.Core.List.{List, _∷_}
-use Prim.Native.Nat.{ℕ, _-_, _*_, _≤_, _<_}
+use mathlib.Core.List.{List, [], _∷_}
+use Prim.Native.Nat.{ℕ, _≤_, _<_}
 use lib.ListN.{length}
-use Rattle.rules.specs.Ops.{Ops}
 use Rattle.words.specs.Links.{Width}
-use Rattle.rules.specs.State.{ops}
 use Rattle.words.specs.Sizes.{roundedOf}
+use Rattle.rules.specs.Lists.{Mem}
+use Rattle.rules.specs.Ops.{Ops}
+use Rattle.rules.specs.State.{ops}
 use Rattle.rules.specs.Rules.{Figures, Outcome}
-use Rattle.rules.specs.Machine.{Model, Request, Answer, madeM}
+use Rattle.rules.specs.Making.{make, empty}
+use Rattle.rules.specs.Machine.{Model, Request, madeM}
 use Rattle.rules.specs.Sound.{Accepted, Shows, Sound}
 use Rattle.rules.specs.Test.{soundᵇ}
-use Rattle.rules.specs.Making.{State, make, empty}
-use Rattle.rules.specs.Demands.{NoFit, LiveAt, hand, back}
-use Rattle.rules.specs.TwoRuns.{Event, requests, run, answers, Allowed, steps, replies}
+use Rattle.rules.specs.Demands.{NoFit, FromCache, FromList, LiveAt, hand, back}
+use Rattle.rules.specs.TwoRuns.{Event, requests, run, answers, Allowed, replies}
 use Rattle.rules.specs.Runs.{machine, acts, call, Live, Same}
 
 -- exactly when
@@ -26,67 +27,108 @@ abbrev pub Allowable : ℕ → Type 0
 Allowable size = (0 < size) × (size ≤ 4294967284)
 
 module _ {S : Type 0} (op : Ops S Figures) (most places : ℕ) where
-  -- DEMAND 1: after a refusal record and words are as they were, whatever the state
-  abbrev pub RefusedUnchanged : Type 0
-  RefusedUnchanged =
-      ((s : S) (size : ℕ) → hand op most places s size .number ≢ 0 → hand op most places s size .after ≡ s)
-      × ((s : S) (p : ℕ) → back op most places s p .number ≢ 0 → back op most places s p .after ≡ s)
+  -- the outcome of asking a state for a size, and of giving a payload offset back to it
+  abbrev pub asked : S → ℕ → Outcome S
+  asked s size = hand op most places s size
 
-  -- SOUND: the test agrees with it, and layout, orders and figures are unique
+  abbrev pub given : S → ℕ → Outcome S
+  given s p = back op most places s p
+
+  -- DEMAND 1: whatever the state, an answer is one of document 01's, and after a refusal record and words are as they were
+  abbrev pub Answers : Type 0
+  Answers = ((s : S) (size : ℕ) → Mem (asked s size .number) (0 ∷ 1 ∷ 2 ∷ 3 ∷ 5 ∷ [])) × ((s : S) (p : ℕ) → Mem (given s p .number) (0 ∷ 4 ∷ 5 ∷ []))
+
+  abbrev pub RefusedUnchanged : Type 0
+  RefusedUnchanged = ((s : S) (size : ℕ) → asked s size .number ≢ 0 → asked s size .after ≡ s) × ((s : S) (p : ℕ) → given s p .number ≢ 0 → given s p .after ≡ s)
+
+  -- what is returned with it: 0 unless a chunk is handed out; and 0 compared but for handouts and no fit
+  abbrev pub Returned : Type 0
+  Returned =
+      ((s : S) (size : ℕ) → asked s size .number ≢ 0 → (asked s size .value ≡ 0) × (asked s size .number ≢ 3 → asked s size .compared ≡ 0))
+      × ((s : S) (p : ℕ) → (given s p .value ≡ 0) × (given s p .compared ≡ 0))
+
+  -- SOUND: the test agrees with it; layout, orders and figures are unique; the calls keep it
   abbrev pub SoundTested : Type 0
   SoundTested = (s : S) → Iff (soundᵇ op most places s ≡ true) (Sound op most places s)
 
   abbrev pub SoundUnique : Type 0
-  SoundUnique = (s : S) (m n : Model) → Shows op most places s m → Shows op most places s n → (m .cs ≡ n .cs) × ((k : ℕ) → k < 6 → m .orders k ≡ n .orders k) × (m .figs ≡ n .figs)
+  SoundUnique =
+      (s : S) (m n : Model) → Shows op most places s m → Shows op most places s n
+      → (m .cs ≡ n .cs) × ((k : ℕ) → k < 6 → m .orders k ≡ n .orders k) × (m .figs ≡ n .figs)
 
   abbrev pub SoundKept : Type 0
   SoundKept =
-      ((s : S) (size : ℕ) → Sound op most places s → Sound op most places (hand op most places s size .after))
-      × ((s : S) (p : ℕ) → Sound op most places s → Sound op most places (back op most places s p .after))
+      ((s : S) (size : ℕ) → Sound op most places s → Sound op most places (asked s size .after))
+      × ((s : S) (p : ℕ) → Sound op most places s → Sound op most places (given s p .after))
 
   -- DEMAND 2: each answer exactly when
+  abbrev pub ZeroExactly : Type 0
+  ZeroExactly = (s : S) (size : ℕ) → Iff (asked s size .number ≡ 1) (size ≡ 0)
+
+  abbrev pub LargeExactly : Type 0
+  LargeExactly = (s : S) (size : ℕ) → Iff (asked s size .number ≡ 2) (4294967284 < size)
+
   abbrev pub DamagedExactly : Type 0
   DamagedExactly =
-      ((s : S) (size : ℕ) → Allowable size → Iff (hand op most places s size .number ≡ 5) (Sound op most places s → ⊥))
-      × ((s : S) (p : ℕ) → Iff (back op most places s p .number ≡ 5) (Sound op most places s → ⊥))
+      ((s : S) (size : ℕ) → Allowable size → Iff (asked s size .number ≡ 5) (Sound op most places s → ⊥))
+      × ((s : S) (p : ℕ) → Iff (given s p .number ≡ 5) (Sound op most places s → ⊥))
 
   abbrev pub NoFitExactly : Type 0
-  NoFitExactly = (s : S) (m : Model) → Shows op most places s m → (size : ℕ) → Allowable size → Iff (hand op most places s size .number ≡ 3) (NoFit m (roundedOf size))
+  NoFitExactly =
+      (s : S) (m : Model) → Shows op most places s m → (size : ℕ) → Allowable size → Iff (asked s size .number ≡ 3) (NoFit m (roundedOf size))
 
   abbrev pub NotLiveExactly : Type 0
-  NotLiveExactly = (s : S) (m : Model) → Shows op most places s m → (p : ℕ) → Iff (back op most places s p .number ≡ 4) (LiveAt m p → ⊥)
+  NotLiveExactly = (s : S) (m : Model) → Shows op most places s m → (p : ℕ) → Iff (given s p .number ≡ 4) (LiveAt m p → ⊥)
+
+  -- and the compared count: a place in the rules' search; at most 1 below 512; for no fit the whole class 5 list from 512 on, else 0
+  abbrev pub Position : Type 0
+  Position =
+      (s : S) (m : Model) → Shows op most places s m → (size : ℕ) → asked s size .number ≡ 0
+      → (asked s size .compared ≡ 0 → FromCache m (roundedOf size) (asked s size .value))
+      × (0 < asked s size .compared → FromList m (roundedOf size) (asked s size .value) (asked s size .compared))
 
   abbrev pub Compared : Type 0
-  Compared = (s : S) (m : Model) → Shows op most places s m → (size : ℕ)
-      → (roundedOf size < 512 → hand op most places s size .compared ≤ 1)
-      × (roundedOf size < 512 → hand op most places s size .number ≡ 3 → hand op most places s size .compared ≡ 0)
-      × (512 ≤ roundedOf size → hand op most places s size .number ≡ 3 → hand op most places s size .compared ≡ length (m .orders 5))
+  Compared =
+      (s : S) (m : Model) → Shows op most places s m → (size : ℕ)
+      → (roundedOf size < 512 → asked s size .compared ≤ 1)
+      × (roundedOf size < 512 → asked s size .number ≡ 3 → asked s size .compared ≡ 0)
+      × (512 ≤ roundedOf size → asked s size .number ≡ 3 → asked s size .compared ≡ length (m .orders 5))
 
   -- DEMAND 3: two heaps that show one model answer alike, and as the rules without memory, whatever else their words hold and the tasks write
   abbrev pub TwoRunsAgree : Type 0
-  TwoRunsAgree = (es fs : List (Event Request)) (s t : S) (m : Model) → requests es ≡ requests fs → Shows op most places s m → Shows op most places t m
+  TwoRunsAgree =
+      (es fs : List (Event Request)) (s t : S) (m : Model) → requests es ≡ requests fs → Shows op most places s m → Shows op most places t m
       → Allowed (acts op most places) es s → Allowed (acts op most places) fs t
-      → (answers (acts op most places) es s ≡ replies (machine places) (requests es) m) × (answers (acts op most places) es s ≡ answers (acts op most places) fs t)
+      → (answers (acts op most places) es s ≡ replies (machine places) (requests es) m)
+      × (answers (acts op most places) es s ≡ answers (acts op most places) fs t)
       × Same op most places (run (acts op most places) es s) (run (acts op most places) fs t)
 
+  -- no call changes a word of a payload that is live before and after it
   abbrev pub PayloadKept : Type 0
-  PayloadKept = (q : Request) (s : S) (i : ℕ) → Live op most places s i → Live op most places (call op most places q s .after) i → op .word (call op most places q s .after) i ≡ op .word s i
+  PayloadKept =
+      (q : Request) (s : S) (i : ℕ) → Live op most places s i → Live op most places (call op most places q s .after) i
+      → op .word (call op most places q s .after) i ≡ op .word s i
 
   pub record Demands : Type 0 where
+    pub numbers : Answers
     pub refused : RefusedUnchanged
+    pub returned : Returned
     pub tested : SoundTested
     pub unique : SoundUnique
     pub kept : SoundKept
+    pub zero : ZeroExactly
+    pub large : LargeExactly
     pub damaged : DamagedExactly
     pub noFit : NoFitExactly
     pub notLive : NotLiveExactly
+    pub position : Position
     pub compared : Compared
     pub runs : TwoRunsAgree
     pub payload : PayloadKept
 
 -- MAKING: 0 exactly for accepted lengths, and then one model for all memories of that length; else 6, the empty record, the words as they were
 abbrev pub MakingSound : Width → ℕ → ℕ → Type 0
-MakingSound W most places = (ws : List ℕ)
-    → Iff (make W most ws .number ≡ 0) (Accepted most (length ws))
+MakingSound W most places =
+    (ws : List ℕ) → Iff (make W most ws .number ≡ 0) (Accepted most (length ws))
     × (make W most ws .number ≡ 0 → Shows (ops W) most places (make W most ws .after) (madeM (length ws)))
     × (make W most ws .number ≢ 0 → (make W most ws .number ≡ 6) × (make W most ws .after ≡ empty ws))

@@ -1,15 +1,16 @@
--- DEMANDS 1 AND 2, for every link width and number of cache places. Assumes nothing.
+-- WHAT THE ANSWERS MEAN, on models: no fit, live, and where a handout comes from; and the two calls as the demands speak of them, with the test for answer 5.
 use mathlib.Core.Path.{_≡_}
-use mathlib.Core.Bool.{false}
+use mathlib.Core.Bool.{true, false}
 use mathlib.Core.List.{List, _∷_, _++_}
-use Prim.Native.Nat.{ℕ, _+_, _-_, _<_}
+use Prim.Native.Nat.{ℕ, _+_, _≤_, _<_}
+use lib.ListN.{length}
+use Rattle.words.specs.Sizes.{thresholdOf}
 use Rattle.rules.specs.Lists.{Mem}
 use Rattle.rules.specs.Ops.{Ops}
-use Rattle.rules.specs.Chunks.{Chunk, free, busy, total}
+use Rattle.rules.specs.Chunks.{Chunk, busy, total}
 use Rattle.rules.specs.Exact.{slot, In, frees}
-use Rattle.words.specs.Sizes.{startOf, thresholdOf}
-use Rattle.rules.specs.Rules.{Figures, Outcome, says, nameOf, serves, handOut, live, takeBack}
-use Rattle.rules.specs.Machine.{Model, sizeM}
+use Rattle.rules.specs.Rules.{Figures, Outcome, byteOf, nameOf, serves, handOut, takeBack}
+use Rattle.rules.specs.Machine.{Model, sizeM, searched}
 use Rattle.rules.specs.Test.{soundᵇ}
 
 -- NO FIT, as document 01 says it: no cached chunk serves, and no free chunk reaches the threshold
@@ -17,7 +18,25 @@ pub record NoFit (m : Model) (z : ℕ) : Type 0 where
   pub cache : (x : ℕ) → Mem x (m .figs .cached) → serves (sizeM m x) z ≡ false
   pub lists : (x n : ℕ) → In (slot x n) (frees 0 (m .cs)) → n < thresholdOf z
 
--- p is the payload start of a live chunk: used and not cached
+-- FROM THE CACHE: the payload at p is that of a cached chunk that serves z
+pub record FromCache (m : Model) (z p : ℕ) : Type 0 where
+  pub chunk : ℕ
+  pub cached : Mem chunk (m .figs .cached)
+  pub suits : serves (sizeM m chunk) z ≡ true
+  pub payload : p ≡ byteOf chunk + 4
+
+-- FROM A LIST: the payload at p is that of the first chunk, in the order of the search for z bytes, that reaches z; it is the c-th one
+pub record FromList (m : Model) (z p c : ℕ) : Type 0 where
+  pub before : List ℕ
+  pub chunk : ℕ
+  pub after : List ℕ
+  pub is : searched m z ≡ before ++ chunk ∷ after
+  pub place : c ≡ length before + 1
+  pub reaches : z ≤ sizeM m chunk
+  pub shorter : (x : ℕ) → Mem x before → sizeM m x < z
+  pub payload : p ≡ byteOf chunk + 4
+
+-- LIVE: p is the payload start of a used chunk that is not cached
 pub record LiveAt (m : Model) (p : ℕ) : Type 0 where
   pub pre : List Chunk
   pub size : ℕ

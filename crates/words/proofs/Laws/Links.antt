@@ -2,6 +2,7 @@
 --     Lawful, narrow-lawful, wide-lawful     what a width has to keep, and that both widths keep it
 --     link-setLink-same, -other, -side, -even, -apart     links in the words after one is stored
 --     length-setLink, at-setLink, link-set                what else a store keeps
+--     setLink-by                                          reading a link word and storing what is put together sets the link
 --     node-store-same, -other, -side, node-set            the same of nodes, in the sentinels and the words
 --     length-setSentinel, length-setChunk, at-setChunk
 use mathlib.Core.Path.{_≡_, refl, ap, _∙_}
@@ -29,11 +30,12 @@ pub record Lawful (W : Width) : Type 0 where
   pub get-put : (a : Side) (x l : ℕ) → l < W .limit → W .get a (W .put a x l) ≡ l
   pub get-put-other : (a : Side) (x l : ℕ) → l < W .limit → W .place a ≡ W .place (other a) → W .get (other a) (W .put a x l) ≡ W .get (other a) x
 
--- the half that was stored is read, and the other half is kept
+-- the half that was stored is read
 half-same : (a : Side) (x l : ℕ) → l < 65536 → half a (withHalf a x l) ≡ l
 half-same prev x l h = omega arith
 half-same next x l h = omega arith
 
+-- and the other half is kept
 half-other : (a : Side) (x l : ℕ) → l < 65536 → half (other a) (withHalf a x l) ≡ half (other a) x
 half-other prev x l h = omega arith
 half-other next x l h = omega arith
@@ -42,11 +44,12 @@ half-other next x l h = omega arith
 pub narrow-lawful : Lawful narrow
 narrow-lawful = record { near = λ a. (omega arith, omega arith); get-put = half-same; get-put-other = λ a x l h e. half-other a x l h }
 
--- 32-bit links stand in the two words after the header, each in its own
+-- 32-bit links stand in the two words after the header
 two-words : (a : Side) → (1 ≤ wordAfter a) × (wordAfter a ≤ 2)
 two-words prev = (omega arith, omega arith)
 two-words next = (omega arith, omega arith)
 
+-- each in its own
 words-differ : (a : Side) → wordAfter a ≡ wordAfter (other a) → ⊥
 words-differ prev e = omega arith
 words-differ next e = omega arith
@@ -75,6 +78,11 @@ module _ (W : Width) (a : Side) (ws : List ℕ) (w l : ℕ) where
   -- another header's link of that side
   pub link-setLink-other : (u : ℕ) → u ≢ w → linkAt W a (setLinkAt W a ws w l) u ≡ linkAt W a ws u
   link-setLink-other u h = link-setLink-apart a u (omega arith)
+
+-- the link word is read, and what the width puts together of it and the link is stored: the link is set
+pub setLink-by : (W : Width) (a : Side) (ws vs : List ℕ) (w l i x : ℕ) → i ≡ w + W .place a → x ≡ at ws i → vs ≡ set ws i (W .put a x l) → vs ≡ setLinkAt W a ws w l
+unfolding setLinkAt
+setLink-by W a ws vs w l i x e f g = rw (g, f, e)
 
 -- a store into any word but the link's keeps the link
 pub link-set : (W : Width) (a : Side) (ws : List ℕ) (w i x : ℕ) → w + W .place a ≢ i → linkAt W a (set ws i x) w ≡ linkAt W a ws w

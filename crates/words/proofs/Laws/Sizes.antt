@@ -1,6 +1,7 @@
 -- Laws of `specs/Sizes.antt`. Assumes nothing.
 --     class-counts                      the class counts the doublings from 32 that a length reaches; the other laws of classes rest on it
---     class-below, class-mono           there are six classes, and a longer chunk's is no lower
+--     class-below, class-small          there are six classes, and below 512 five
+--     class-mono, least-of-class        a longer chunk's class is no lower, and a length is at least its class's least
 --     class-reaches, class-least        a length is at least the least of a class exactly if its own class is no lower
 --     class-is                          the class is the one whose range holds the length
 --     threshold-small, threshold-is, threshold-large     what the threshold is below 512, and from 512 on
@@ -60,9 +61,13 @@ class-is n k b low high =
     let down : classOf n ≤ k = by-contra (classOf n) k (λ h. omega (arith, class-least (suc k) n h)) in
     omega arith
 
+-- a length is at least the least of its own class
+pub least-of-class : (n : ℕ) → leastOf (classOf n) ≤ n
+least-of-class n = class-least (classOf n) n (le-refl (classOf n))
+
 -- a longer chunk's class is no lower
 pub class-mono : (m n : ℕ) → m ≤ n → classOf m ≤ classOf n
-class-mono m n h = class-reaches (classOf m) n (class-below m) (le-trans (class-least (classOf m) m (le-refl (classOf m))) h)
+class-mono m n h = class-reaches (classOf m) n (class-below m) (le-trans (least-of-class m) h)
 
 -- ---- thresholds
 
@@ -101,10 +106,11 @@ threshold-from s = by-cases 512 s (λ h. omega (arith, threshold-large s h)) (λ
 
 -- ---- the class by leading zeros
 
--- a number of m binary digits has at most k of them exactly if it is below 2 ^ k
+-- a number of m binary digits that is below 2 ^ k has at most k digits
 digits-le : (m n k : ℕ) → 2 ^ m ≤ 2 * n + 1 → n < 2 ^ k → m ≤ k
 digits-le m n k h l = by-contra m k (λ (g : k < m). omega (arith, pow-mono g, pow-suc 2 k))
 
+-- and one that is at least 2 ^ k has more than k
 digits-gt : (m n k : ℕ) → n < 2 ^ m → 2 ^ k ≤ n → k < m
 digits-gt m n k h l = by-contra (suc k) m (λ (g : m < suc k). omega (arith, pow-mono (le-of-suc-le-suc g)))
 

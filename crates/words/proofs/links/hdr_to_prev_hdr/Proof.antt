@@ -13,7 +13,7 @@ cast-t6 : tie.Need-cast-t6
 cast-t6 c = search needs
 
 returns : tie.Need-returns
-returns c = cc
+returns c = rw (c .word .ensures, c .before .link-word .ensures)
 
 pub hdr-to-prev-hdr-spec : {M : Type 1} → statement M
 hdr-to-prev-hdr-spec = tie.close (tie.spec link-word-requires word-requires cast-t6 returns)

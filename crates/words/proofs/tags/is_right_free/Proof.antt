@@ -10,7 +10,7 @@ is-this-free-requires : tie.Need-is-this-free-requires
 is-this-free-requires c κs = search needs
 
 returns : tie.Need-returns
-returns c = cc
+returns c = rw (c .is-this-free .ensures, c .before .hdr-to-right-hdr .ensures)
 
 pub is-right-free-spec : {M : Type 1} → statement M
 is-right-free-spec = tie.close (tie.spec hdr-to-right-hdr-requires is-this-free-requires returns)

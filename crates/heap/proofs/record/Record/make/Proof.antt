@@ -1,4 +1,6 @@
 use borrow.Author.Needs.{needs}
+use mathlib.Core.Path.{refl}
+use Rattle.heap.proofs.Answers.{make-short, make-long, make-even, make-done}
 use Rattle.heap.proofs.record.Record.make.Statement.{statement}
 use Rattle.heap.proofs.record.Record.make.Tie as tie
 use Rattle.heap.proofs.record.Record.make.Reads as reads
@@ -13,7 +15,7 @@ empty-requires c κs = search needs
 
 -- src/calls.rt:59:13
 returns : tie.Need-returns
-returns c = ?
+returns c = rw (c .empty .ensures) (make-short _ (c .before .if1 .taken))
 
 -- src/calls.rt:62:58
 empty-requires-2 : tie.Need-empty-requires-2
@@ -21,7 +23,7 @@ empty-requires-2 c κs = search needs
 
 -- src/calls.rt:62:13
 returns-2 : tie.Need-returns-2
-returns-2 c = ?
+returns-2 c = rw (c .empty2 .ensures) (make-long _ (c .before .if2 .taken))
 
 -- src/calls.rt:65:58
 empty-requires-3 : tie.Need-empty-requires-3
@@ -29,7 +31,7 @@ empty-requires-3 c κs = search needs
 
 -- src/calls.rt:65:13
 returns-3 : tie.Need-returns-3
-returns-3 c = ?
+returns-3 c = rw (c .empty3 .ensures) (make-even _ (c .before .before .before .if1 .left) (c .before .before .if2 .left) (c .before .if3 .taken))
 
 -- src/calls.rt:67:36
 cast-of-words : tie.Need-cast-of-words
@@ -49,7 +51,7 @@ same-length c = search needs
 
 -- src/calls.rt:54:5
 returns-4 : tie.Need-returns-4
-returns-4 c = ?
+returns-4 c = make-done (c .before .before .before .before .of-words .result) (c .before .before .one-chunk .result) (c .before .before .before .before .before .before .before .before .before .args .heap .now) _ _ refl (c .before .before .before .before .before .before .before .if1 .left) (c .before .before .before .before .before .before .if2 .left) (c .before .before .before .before .before .if3 .left) (c .before .before .before .before .of-words .ensures) (c .before .before .one-chunk .ensures)
 
 pub make-spec : {M : Type 1} → statement M
 make-spec =

@@ -1,4 +1,10 @@
 use borrow.Author.Needs.{needs}
+use mathlib.Core.Path.{refl}
+use native.Mathlib.Omega.{arith}
+use Prim.Native.Nat.{_*_, _-_}
+use lib.ListN.{length}
+use Rattle.words.proofs.Laws.Sizes.{class-below}
+use Rattle.heap.proofs.Answers.{one-chunk-by}
 use Rattle.heap.proofs.record.Record.one_chunk.Statement.{statement}
 use Rattle.heap.proofs.record.Record.one_chunk.Tie as tie
 use Rattle.heap.proofs.record.Record.one_chunk.Reads as reads
@@ -34,7 +40,9 @@ chunk-size-to-list-index-requires c κs = search needs
 
 -- src/calls.rt:116:9
 link-chunk-requires : tie.Need-link-chunk-requires
-link-chunk-requires c κs = ?
+link-chunk-requires c κs = 
+    let class = class-below (4 * (length (c .before .before .before .before .before .before .before .before .before .before .before .args .heap .now) - 1)) in
+    (omega (arith, c .before .chunk-size-to-list-index .ensures), omega arith)
 
 -- src/calls.rt:107:5
 same-length : tie.Need-same-length
@@ -42,7 +50,7 @@ same-length c = search needs
 
 -- src/calls.rt:107:5
 returns : tie.Need-returns
-returns c = ?
+returns c = one-chunk-by (c .before .before .before .before .before .before .before .before .before .before .before .before .before .before .args .self) (c .before .before .link-chunk .result) _ _ _ _ _ _ _ _ (omega (arith, c .before .before .before .before .before .before .before .before .before .before .before .before .before .before .pre)) refl refl (c .before .before .before .before .before .before .before .before .before .before .before .set-free-chunk-hdr-ftr .ensures) (c .before .before .before .before .before .before .before .put .ensures) (c .before .before .before .before .chunk-size-to-list-index .ensures) (c .before .before .link-chunk .ensures)
 
 pub one-chunk-spec : {M : Type 1} → statement M
 one-chunk-spec =

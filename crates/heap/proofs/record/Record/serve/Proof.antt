@@ -1,4 +1,7 @@
 use borrow.Author.Needs.{needs}
+use native.Mathlib.Omega.{arith}
+use Prim.Native.Nat.{_<_}
+use Rattle.heap.proofs.Answers.{served-cached, served-listed}
 use Rattle.heap.proofs.record.Record.serve.Statement.{statement}
 use Rattle.heap.proofs.record.Record.serve.Tie as tie
 use Rattle.heap.proofs.record.Record.serve.Reads as reads
@@ -31,7 +34,9 @@ same-length c = search needs
 
 -- src/calls.rt:172:13
 returns : tie.Need-returns
-returns c = ?
+returns c = 
+    let below : c .before .before .before .before .before .before .before .args .self .cached .0 < 65536 = omega (arith, c .before .before .before .before .before .before .before .good) in
+    served-cached (c .before .before .before .before .before .before .before .args .self) (c .before .before .before .before .before .before .before .args .heap .now) (c .before .before .before .before .before .before .before .args .z) (c .with-cached .result) _ _ _ below (c .before .before .before .before .cache-serves .ensures) (c .before .before .before .if1 .taken) (c .before .before .link-to-hdr .ensures) (c .before .hdr-to-payload .ensures) (c .with-cached .ensures)
 
 -- src/calls.rt:174:9
 serve-listed-requires : tie.Need-serve-listed-requires
@@ -43,7 +48,7 @@ same-length-2 c = search needs
 
 -- src/calls.rt:165:5
 returns-2 : tie.Need-returns-2
-returns-2 c = ?
+returns-2 c = served-listed (c .before .before .before .before .before .before .before .before .args .self) (c .before .before .before .before .before .before .before .before .args .heap .now) (c .before .before .before .before .before .before .before .before .args .z) _ _ (c .before .before .before .before .before .cache-serves .ensures) (c .before .before .before .before .if1 .left) (c .before .before .serve-listed .ensures)
 
 pub serve-spec : {M : Type 1} → statement M
 serve-spec =

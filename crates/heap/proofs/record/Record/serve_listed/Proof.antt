@@ -1,4 +1,11 @@
 use borrow.Author.Needs.{needs}
+use mathlib.Core.Path.{refl, sym, ap, _∙_}
+use native.Mathlib.Omega.{arith}
+use Rattle.heap.specs.declared.search.Found.{Found}
+use Rattle.heap.specs.Found.{told}
+use Rattle.heap.specs.Answer.{soundAt}
+use Rattle.heap.proofs.Walks.{first-fit-is}
+use Rattle.heap.proofs.Answers.{nowhere-safe, take-safe, portion-room, in-use-kept, listed-lost, listed-nowhere, listed-hit}
 use Rattle.heap.proofs.record.Record.serve_listed.Statement.{statement}
 use Rattle.heap.proofs.record.Record.serve_listed.Tie as tie
 use Rattle.heap.proofs.record.Record.serve_listed.Reads as reads
@@ -27,7 +34,9 @@ enum-known-found c = search needs
 
 -- src/calls.rt:186:62
 cast-t19 : tie.Need-cast-t19
-cast-t19 c = ?
+cast-t19 c = 
+    let few = nowhere-safe (c .before .before .before .before .before .before .before .args .self) (c .before .before .before .before .before .before .before .args .heap .now) (c .before .before .before .before .before .before .before .args .z) (c .before .before .before .before .before .before .before .pre) _ (sym (ap (λ (q : Found). told q) (c .before .found .given .1)) ∙ c .before .before .before .search-first-fit .ensures ∙ sym (first-fit-is soundAt (c .before .before .before .before .before .before .before .args .self) (c .before .before .before .before .before .before .before .args .heap .now) (c .before .before .before .before .before .before .before .args .z))) in
+    record { fits = omega arith }
 
 -- src/calls.rt:187:23
 enum-known-found-2 : tie.Need-enum-known-found-2
@@ -47,7 +56,9 @@ portion-of-requires c κs = search needs
 
 -- src/calls.rt:191:21
 take-chunk-requires : tie.Need-take-chunk-requires
-take-chunk-requires c κs = ?
+take-chunk-requires c κs = 
+    let safe = take-safe (c .before .before .before .before .before .before .before .before .before .before .before .before .args .self) (c .before .before .before .before .before .before .before .before .before .before .before .before .args .heap .now) (c .before .before .before .before .before .before .before .before .before .before .before .before .args .z) (c .before .before .before .before .before .before .before .before .before .before .before .before .pre) _ _ _ _ (sym (ap (λ (q : Found). told q) (c .before .before .before .before .before .before .found2 .given .1)) ∙ c .before .before .before .before .before .before .before .before .search-first-fit .ensures ∙ sym (first-fit-is soundAt (c .before .before .before .before .before .before .before .before .before .before .before .before .args .self) (c .before .before .before .before .before .before .before .before .before .before .before .before .args .heap .now) (c .before .before .before .before .before .before .before .before .before .before .before .before .args .z))) (c .before .before .before .before .link-to-hdr .ensures) (c .before .before .get-hdr-chunk-size .ensures) in
+    (safe .0, safe .1)
 
 -- src/calls.rt:192:48
 hdr-to-right-hdr-requires : tie.Need-hdr-to-right-hdr-requires
@@ -59,7 +70,11 @@ hdr-to-offset-requires c κs = search needs
 
 -- src/calls.rt:193:21
 count-in-requires : tie.Need-count-in-requires
-count-in-requires c κs = ?
+count-in-requires c κs = 
+    let safe = take-safe (c .before .before .before .before .before .before .before .before .before .before .before .before .before .before .before .before .before .args .self) (c .before .before .before .before .before .before .before .before .before .before .before .before .before .before .before .before .before .args .heap .now) (c .before .before .before .before .before .before .before .before .before .before .before .before .before .before .before .before .before .args .z) (c .before .before .before .before .before .before .before .before .before .before .before .before .before .before .before .before .before .pre) _ _ _ _ (sym (ap (λ (q : Found). told q) (c .before .before .before .before .before .before .before .before .before .before .before .found2 .given .1)) ∙ c .before .before .before .before .before .before .before .before .before .before .before .before .before .search-first-fit .ensures ∙ sym (first-fit-is soundAt (c .before .before .before .before .before .before .before .before .before .before .before .before .before .before .before .before .before .args .self) (c .before .before .before .before .before .before .before .before .before .before .before .before .before .before .before .before .before .args .heap .now) (c .before .before .before .before .before .before .before .before .before .before .before .before .before .before .before .before .before .args .z))) (c .before .before .before .before .before .before .before .before .before .link-to-hdr .ensures) (c .before .before .before .before .before .before .before .get-hdr-chunk-size .ensures) in
+    let part = portion-room (c .before .before .before .before .before .before .before .before .before .before .before .before .before .before .before .before .before .args .self) (c .before .before .before .before .before .before .before .before .before .before .before .before .before .before .before .before .before .args .heap .now) (c .before .before .before .before .before .before .before .before .before .before .before .before .before .before .before .before .before .args .z) (c .before .before .before .before .before .before .before .before .before .before .before .before .before .before .before .before .before .pre) _ _ (c .before .before .before .before .before .before .portion-of .ensures) in
+    let kept = in-use-kept (c .before .before .before .before .before .before .before .before .before .before .before .before .before .before .before .before .before .args .self) (c .before .before .before .before .take-chunk .result) _ _ _ _ _ (c .before .before .before .before .take-chunk .ensures) in
+    omega (arith, safe .2, part, kept)
 
 -- src/calls.rt:194:44
 hdr-to-payload-requires : tie.Need-hdr-to-payload-requires
@@ -67,7 +82,9 @@ hdr-to-payload-requires c κs = search needs
 
 -- src/calls.rt:194:72
 cast-t27 : tie.Need-cast-t27
-cast-t27 c = ?
+cast-t27 c = 
+    let safe = take-safe (c .before .before .before .before .before .before .before .before .before .before .before .before .before .before .before .before .before .before .before .args .self) (c .before .before .before .before .before .before .before .before .before .before .before .before .before .before .before .before .before .before .before .args .heap .now) (c .before .before .before .before .before .before .before .before .before .before .before .before .before .before .before .before .before .before .before .args .z) (c .before .before .before .before .before .before .before .before .before .before .before .before .before .before .before .before .before .before .before .pre) _ _ _ _ (sym (ap (λ (q : Found). told q) (c .before .before .before .before .before .before .before .before .before .before .before .before .before .found2 .given .1)) ∙ c .before .before .before .before .before .before .before .before .before .before .before .before .before .before .before .search-first-fit .ensures ∙ sym (first-fit-is soundAt (c .before .before .before .before .before .before .before .before .before .before .before .before .before .before .before .before .before .before .before .args .self) (c .before .before .before .before .before .before .before .before .before .before .before .before .before .before .before .before .before .before .before .args .heap .now) (c .before .before .before .before .before .before .before .before .before .before .before .before .before .before .before .before .before .before .before .args .z))) (c .before .before .before .before .before .before .before .before .before .before .before .link-to-hdr .ensures) (c .before .before .before .before .before .before .before .before .before .get-hdr-chunk-size .ensures) in
+    record { fits = omega (arith, safe .3) }
 
 -- src/calls.rt:178:5
 same-length : tie.Need-same-length
@@ -75,7 +92,7 @@ same-length c = search needs
 
 -- src/calls.rt:178:5
 returns : tie.Need-returns
-returns c = ?
+returns c = listed-lost (c .before .before .before .before .before .before .args .self) (c .before .before .before .before .before .before .args .heap .now) (c .before .before .before .before .before .before .args .z) (c .before .before .before .before .before .before .pre) (sym (ap (λ (q : Found). told q) (c .enum-told .given .1)) ∙ c .before .before .search-first-fit .ensures ∙ sym (first-fit-is soundAt (c .before .before .before .before .before .before .args .self) (c .before .before .before .before .before .before .args .heap .now) (c .before .before .before .before .before .before .args .z)))
 
 -- src/calls.rt:178:5
 same-length-2 : tie.Need-same-length-2
@@ -83,7 +100,7 @@ same-length-2 c = search needs
 
 -- src/calls.rt:178:5
 returns-2 : tie.Need-returns-2
-returns-2 c = ?
+returns-2 c = listed-nowhere (c .before .before .before .before .before .before .before .args .self) (c .before .before .before .before .before .before .before .args .heap .now) (c .before .before .before .before .before .before .before .args .z) (c .before .before .before .before .before .before .before .pre) _ _ refl (sym (ap (λ (q : Found). told q) (c .before .found .given .1)) ∙ c .before .before .before .search-first-fit .ensures ∙ sym (first-fit-is soundAt (c .before .before .before .before .before .before .before .args .self) (c .before .before .before .before .before .before .before .args .heap .now) (c .before .before .before .before .before .before .before .args .z)))
 
 -- src/calls.rt:178:5
 same-length-3 : tie.Need-same-length-3
@@ -91,7 +108,8 @@ same-length-3 c = search needs
 
 -- src/calls.rt:178:5
 returns-3 : tie.Need-returns-3
-returns-3 c = ?
+returns-3 c = listed-hit (c .before .before .before .before .before .before .before .before .before .before .before .before .before .before .before .before .before .before .before .args .self) (c .before .before .before .before .before .before .before .before .before .before .before .before .before .before .before .before .before .before .before .args .heap .now) (c .before .before .before .before .before .before .before .before .before .before .before .before .before .before .before .before .before .before .before .args .z) (c .before .before .before .before .before .before .before .before .before .before .before .before .before .before .before .before .before .before .before .pre) (c .before .before .before .before .before .before .take-chunk .result) (c .before .count-in .result) _ _ _ _ _ _ _ _ _ _ (sym (ap (λ (q : Found). told q) (c .before .before .before .before .before .before .before .before .before .before .before .before .before .found2 .given .1)) ∙ c .before .before .before .before .before .before .before .before .before .before .before .before .before .before .before .search-first-fit .ensures ∙ sym (first-fit-is soundAt (c .before .before .before .before .before .before .before .before .before .before .before .before .before .before .before .before .before .before .before .args .self) (c .before .before .before .before .before .before .before .before .before .before .before .before .before .before .before .before .before .before .before .args .heap .now) (c .before .before .before .before .before .before .before .before .before .before .before .before .before .before .before .before .before .before .before .args .z))) (c .before .before .before .before .before .before .before .before .before .before .before .link-to-hdr .ensures) (c .before .before .before .before .before .before .before .before .before .get-hdr-chunk-size .ensures)
+    (c .before .before .before .before .before .before .before .before .portion-of .ensures) (c .before .before .before .before .before .before .take-chunk .ensures) (c .before .before .before .hdr-to-right-hdr .ensures) (c .before .before .hdr-to-offset .ensures) (c .before .count-in .ensures) (c .hdr-to-payload .ensures) refl
 
 pub serve-listed-spec : {M : Type 1} → statement M
 serve-listed-spec =

@@ -1,4 +1,6 @@
 use borrow.Author.Needs.{needs}
+use native.Mathlib.Omega.{arith}
+use Rattle.heap.proofs.Answers.{settled-first, settle-safe, settled-next}
 use Rattle.heap.proofs.record.Record.settle.Statement.{statement}
 use Rattle.heap.proofs.record.Record.settle.Tie as tie
 use Rattle.heap.proofs.record.Record.settle.Reads as reads
@@ -15,7 +17,7 @@ with-cached-requires c κs = search needs
 
 -- src/calls.rt:142:13
 returns : tie.Need-returns
-returns c = ?
+returns c = settled-first (c .before .before .before .before .before .args .self) (c .before .before .before .before .before .args .heap .now) (c .before .before .before .before .before .args .l) (c .with-cached .result) (c .before .if1 .taken) (λ q. omega (arith, c .before .before .before .before .before .pre .1, q)) (c .with-cached .ensures)
 
 -- src/calls.rt:144:49
 link-to-hdr-requires : tie.Need-link-to-hdr-requires
@@ -27,7 +29,7 @@ get-hdr-chunk-size-requires c κs = search needs
 
 -- src/calls.rt:145:13
 release-chunk-requires : tie.Need-release-chunk-requires
-release-chunk-requires c κs = ?
+release-chunk-requires c κs = settle-safe (c .before .before .before .before .before .before .before .before .args .self) (c .before .before .before .before .before .before .before .before .args .heap .now) (c .before .before .before .before .before .before .before .before .args .l) _ _ (c .before .before .before .before .before .before .before .before .pre .0) (c .before .before .before .before .if1 .left) (c .before .before .link-to-hdr .ensures) (c .before .get-hdr-chunk-size .ensures)
 
 -- src/calls.rt:146:9
 count-out-requires : tie.Need-count-out-requires
@@ -39,7 +41,8 @@ same-length c = search needs
 
 -- src/calls.rt:136:5
 returns-2 : tie.Need-returns-2
-returns-2 c = ?
+returns-2 c = settled-next (c .before .before .before .before .before .before .before .before .before .before .before .before .args .self) (c .before .before .before .before .before .before .before .before .before .before .before .before .args .heap .now) (c .before .before .before .before .before .before .before .before .before .before .before .before .args .l) (c .before .before .before .release-chunk .result) (c .count-out .result) _ _ _ (c .before .before .before .before .before .before .before .before .if1 .left) (λ q. omega (arith, c .before .before .before .before .before .before .before .before .before .before .before .before .pre .1, q)) (c .before .before .before .before .before .before .link-to-hdr .ensures) (c .before .before .before .before .before .get-hdr-chunk-size .ensures)
+    (c .before .before .before .release-chunk .ensures) (c .count-out .ensures)
 
 pub settle-spec : {M : Type 1} → statement M
 settle-spec =
