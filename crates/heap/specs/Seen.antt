@@ -2,12 +2,13 @@
 use mathlib.Core.Bool.{true, false}
 use mathlib.Core.List.{List, [], _∷_}
 use Prim.Native.Nat.{ℕ, _+_, _-_, max}
-use lib.Dec.{eqb, ltb}
+use lib.Dec.{ltb}
 use lib.ListN.{set}
 use Rattle.words.specs.declared.names.Link.{Link}
 use Rattle.words.specs.Choice.{pick}
 use Rattle.words.specs.Links.{narrow}
 use Rattle.words.specs.Numbers.{numbers}
+use Rattle.audit.specs.Shown.{cachedOf}
 use Rattle.rules.specs.Ops.{Ops}
 use Rattle.rules.specs.State.{ops}
 use Rattle.rules.specs.Rules.{Figures}
@@ -17,10 +18,6 @@ use Rattle.heap.specs.declared.record.Record.{Record}
 -- the operations of narrow links, which this heap is the edition of
 abbrev pub base : Ops State Figures
 base = ops narrow
-
--- the cached chunks by their links: none where the field is 0
-abbrev pub cachedOf : ℕ → List ℕ
-cachedOf l = pick (eqb l 0) [] (l ∷ [])
 
 -- what the record holds beside its links
 abbrev pub figuresOf : Record → Figures

@@ -11,7 +11,8 @@ ghost use Rattle.rules.specs.Rules.{Outcome, fromList, firstFit, serve, settled
 ghost use Rattle.rules.specs.Steps.{oneChunk};
 ghost use Rattle.rules.specs.Making.{make};
 ghost use Rattle.rules.specs.Demands.{hand, back};
-ghost use Rattle.heap.specs.Seen.{seen, base, cachedOf};
+ghost use Rattle.heap.specs.Seen.{seen, base};
+ghost use Rattle.audit.specs.Shown.{cachedOf};
 ghost use Rattle.heap.specs.Answer.{outcome, soundAt, cacheServes, Served};
 use super::live::used_length;
 use super::merge::set_free_chunk_hdr_ftr;
@@ -19,6 +20,7 @@ use super::record::Record;
 use super::search::Found;
 use super::search::search_first_fit;
 use super::split::portion_of;
+use audit::Figures;
 use words::ByteOffset;
 use words::Link;
 use words::WordIndex;
@@ -47,7 +49,17 @@ impl Record {
     pub fn audit(self, heap: &[u32]) -> bool
         ensures { λ r. ⌜ r ≡ soundAt (seen self (now (heap .entry))) ⌝ }
     {
-        self.words == 7
+        let prev = self.prev;
+        let next = self.next;
+        let cached = self.cached;
+        let figures = Figures {
+            words: self.words,
+            in_use: self.in_use,
+            peak: self.peak,
+            high: self.high,
+            cached,
+        };
+        audit::audit(prev, next, figures, heap)
     }
 
     // Makes a heap of the whole slice: one free chunk and the guard. Refuses a length that is not odd, or not 5 to 65,529.
