@@ -11,7 +11,6 @@ use mathlib.Core.Bool.{Bool, true, false}
 use mathlib.Core.List.{List, [], _∷_, _++_}
 use Prim.Native.Nat.{ℕ, _+_, _-_, _*_, _/_, _%_, _≤_, _<_}
 use native.Mathlib.Omega.{arith}
-use native.Mathlib.Nat.{zero-add}
 use lib.Dec.{lit<}
 use lib.Arith.{digits-mod}
 use lib.ListN.{length, length-append}
@@ -30,14 +29,14 @@ use Rattle.rules.proofs.Part.{legal-front, legal-back}
 use Rattle.rules.proofs.Calls.{Whole, total-8}
 use Rattle.rules.specs.Orders.{freeHead}
 use Rattle.rules.proofs.Release.{right-read}
-use Rattle.rules.specs.Search.{Found, at, nowhere, lost}
+use Rattle.rules.specs.Search.{at, nowhere, lost}
 use Rattle.rules.proofs.Search.{find-fits, Fits, find-counts, Counts}
 use Rattle.rules.specs.Place.{usedAt}
 use Rattle.rules.proofs.Place.{free-at, used-at}
 use Rattle.rules.proofs.Threshold.{cls6}
 use Rattle.rules.proofs.Named.{size-at, listed-few}
 use Rattle.rules.specs.Rules.{Figures, byteOf, nameOf, firstFit, live}
-use Rattle.rules.specs.Machine.{Model, sizeM, searched, searchM}
+use Rattle.rules.specs.Machine.{Model, sizeM, searched}
 use Rattle.rules.specs.Sound.{Accepted, Shows}
 use Rattle.rules.specs.Test.{soundᵇ}
 use Rattle.rules.proofs.Base.{Edition, L, whole, few, search-same, met-free, met-size, used-size, left-there, live-same, live-is}

@@ -1,5 +1,5 @@
 -- HOW A CALL CAN END, case by case: on states, and on models. Each lemma shows a property of the outcome from what each way out yields. Assumes nothing.
-use mathlib.Core.Path.{_≡_, refl, sym, subst}
+use mathlib.Core.Path.{_≡_, refl, subst}
 use mathlib.Core.Logic.{_≢_}
 use mathlib.Core.Bool.{Bool, true, false}
 use mathlib.Core.List.{List, [], _∷_, _++_}

@@ -18,11 +18,10 @@ use Rattle.rules.proofs.Calls.{total-8}
 use Rattle.rules.specs.Search.{Found, at, nowhere}
 use Rattle.rules.proofs.Search.{find-fits, Fits, find-counts, Counts}
 use Rattle.rules.specs.Place.{lenAt, usedAt}
-use Rattle.rules.proofs.Place.{free-at, len-at, used-at}
-use Rattle.rules.proofs.Persist.{used-skip}
+use Rattle.rules.proofs.Place.{free-at, len-at, used-at, used-skip}
 use Rattle.rules.proofs.Threshold.{cls6}
 use Rattle.rules.proofs.Exactly.{none-fits, some-fits, few-compared, five-listed, Few}
-use Rattle.rules.specs.Rules.{Figures, Outcome, says, byteOf, nameOf, listed}
+use Rattle.rules.specs.Rules.{Figures, byteOf, nameOf, listed}
 use Rattle.rules.specs.Machine.{Model, sizeM, searched, searchM, handOutM, liveM, takeBackM}
 use Rattle.rules.specs.Sound.{Shows, Sound}
 use Rattle.rules.specs.Test.{soundᵇ}

@@ -16,8 +16,6 @@ use Rattle.rules.proofs.Store.{LinkStore}
 use Rattle.rules.specs.State.{ops}
 use Rattle.rules.proofs.Heap.{store}
 use Rattle.rules.proofs.Rings.{Rings, empty-rings}
-use Rattle.words.specs.Sizes.{classOf}
-use Rattle.rules.proofs.Threshold.{cls6}
 use Rattle.rules.proofs.Make.{made-whole}
 use Rattle.rules.specs.Rules.{Figures}
 use Rattle.rules.specs.Machine.{madeM}

@@ -9,7 +9,7 @@ use native.Mathlib.Omega.{arith}
 use Rattle.words.specs.Choice.{pick}
 use Rattle.rules.specs.Lists.{Mem, Distinct, put}
 use Rattle.rules.proofs.Lists.{put-same, put-cases, mem-middle, gone}
-use Rattle.rules.specs.Chunks.{Chunk, free, total, Legal}
+use Rattle.rules.specs.Chunks.{Chunk, total, Legal}
 use Rattle.rules.specs.Exact.{Exact, In, Slot, frees, slot}
 
 pub frees-append : (b : ℕ) (pre cs : List Chunk) → frees b (pre ++ cs) ≡ frees b pre ++ frees (b + total pre) cs

@@ -1,9 +1,9 @@
 -- WHAT A SEARCH FINDS, on models: "no fit" exactly below the threshold, for all sizes; few compared below 512, and a place in list 5 from there on.
 -- Assumes nothing.
-use mathlib.Core.Path.{_≡_, refl, sym, ap, _∙_, subst}
+use mathlib.Core.Path.{_≡_, refl, _∙_, subst}
 use mathlib.Core.Bool.{Bool, true, false}
-use mathlib.Core.List.{List, [], _∷_, _++_, List·Memᴰ·head}
-use Prim.Native.Nat.{ℕ, zero, suc, _+_, _-_, _≤_, _<_}
+use mathlib.Core.List.{List, [], _∷_, List·Memᴰ·head}
+use Prim.Native.Nat.{ℕ, suc, _+_, _-_, _≤_, _<_}
 use native.Mathlib.Omega.{arith}
 use native.Mathlib.Decide.{decLe}
 use lib.Dec.{leb}
@@ -13,7 +13,7 @@ use Rattle.words.specs.Choice.{pick}
 use Rattle.words.specs.Sizes.{classOf, leastOf, startOf, thresholdOf}
 use Rattle.rules.specs.Lists.{Mem}
 use Rattle.rules.specs.Search.{Found, at, nowhere, lost, find, inTurn}
-use Rattle.rules.proofs.Search.{find-fits, Fits, find-counts, Counts, in-turn, turn-in}
+use Rattle.rules.proofs.Search.{find-fits, Fits, in-turn, turn-in}
 use Rattle.rules.proofs.Threshold.{Range, range, r0, r1, r2, r3, r4, r5, above, below, under}
 
 -- below 512 the class is below 5, and from there on it is 5

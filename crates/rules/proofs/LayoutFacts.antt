@@ -15,7 +15,7 @@ use Rattle.rules.specs.Chunks.{Chunk, free, busy, total, Legal, join, re
 use Rattle.rules.proofs.Chunks.{release-legal}
 use Rattle.rules.specs.Place.{usedAt, lenAt}
 use Rattle.rules.proofs.Place.{used-at, len-at}
-use Rattle.rules.proofs.Counters.{release-sum, taken-sum}
+use Rattle.rules.proofs.Sums.{release-sum, taken-sum}
 use Rattle.rules.proofs.Part.{legal-front}
 use Rattle.rules.specs.Sound.{Under}
 

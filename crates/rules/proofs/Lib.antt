@@ -23,8 +23,7 @@ pub mod Make
 pub mod Keep
 pub mod KeepLive
 pub mod Audit
-pub mod Counters
-pub mod Persist
+pub mod Sums
 pub mod Threshold
 pub mod LayoutFacts
 pub mod Base

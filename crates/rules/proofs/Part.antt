@@ -5,14 +5,14 @@ use mathlib.Core.Path.{_≡_, refl, sym, subst}
 use mathlib.Core.Logic.{_⊎_, inl, inr}
 use mathlib.Core.Bool.{Bool, true}
 use mathlib.Core.List.{List, [], _∷_, _++_, List·Memᴰ·head, List·Memᴰ·tail, Memᴰ·append-left, Memᴰ·append-right, List·Memᴰ·append-cases}
-use Prim.Native.Nat.{ℕ, _+_, _-_, _/_, _≤_, _<_}
+use Prim.Native.Nat.{ℕ, _+_, _/_, _≤_, _<_}
 use native.Mathlib.Omega.{arith}
 use Rattle.rules.specs.Lists.{Mem, put}
 use Rattle.rules.specs.Ops.{Ops}
 use Rattle.rules.specs.Steps.{link, unlink}
 use Rattle.rules.proofs.Store.{LinkStore}
 use Rattle.rules.proofs.Rings.{Rings, link-rings, unlink-rings, ring-next, link-word, unlink-word, rings-write, prev-on, next-on}
-use Rattle.rules.specs.Chunks.{Chunk, free, total, Legal}
+use Rattle.rules.specs.Chunks.{Chunk, total, Legal}
 use Rattle.rules.proofs.Chunks.{total-append}
 use Rattle.rules.specs.Exact.{Slot, slot, In, frees, Exact}
 use Rattle.rules.proofs.Exact.{frees-append, frees-from, Alone, exact-remove, exact-add, in-middle, in-wide}

@@ -4,12 +4,12 @@ use mathlib.Core.Logic.{_≢_}
 use mathlib.Core.Bool.{Bool, true, false}
 use mathlib.Core.List.{List, [], _∷_, _++_, List·Memᴰ·head, List·Memᴰ·tail, List·Memᴰ·not-nil}
 use Prim.Native.Nat.{ℕ, zero, suc, _+_, _-_, _*_, _/_, _%_, _≤_, _<_}
-use native.Mathlib.Nat.{not-suc-le-zero, le-of-suc-le-suc, add-zero}
+use native.Mathlib.Nat.{not-suc-le-zero, le-of-suc-le-suc, add-zero, sub-zero}
 use native.Mathlib.Omega.{arith}
 use lib.Dec.{eqb, leb}
 use lib.Arith.{digits-mod}
 use lib.ListN.{length}
-use borrow.Author.Tests.{eq-eqb, ne-eqb, eqb-true, leb-true}
+use borrow.Author.Tests.{eq-eqb, ne-eqb, eqb-true, leb-true, le-leb}
 use Rattle.words.specs.Choice.{pick, bit}
 use Rattle.rules.specs.Chunks.{Chunk, free, busy, total, Legal}
 use Rattle.rules.specs.Exact.{Slot, slot, In, frees}
@@ -114,3 +114,12 @@ used-at (c ∷ cs) b h = go (eqb b 0) refl (c .used) refl (leb (c .len) b) refl 
         let h = leb-true (c .len) b g in
         let y = q .byte in
         record { pre = c ∷ q .pre; post = q .post; is = ap (λ (x : List Chunk). c ∷ x) (q .is); byte = omega arith }
+
+-- a used chunk past a front part
+pub used-skip : (pre cs : List Chunk) (c : ℕ) → Legal pre → total pre ≤ c → usedAt (pre ++ cs) c ≡ usedAt cs (c - total pre)
+unfolding usedAt
+used-skip [] cs c l h = ap (usedAt cs) (sym (sub-zero c))
+used-skip (d ∷ pre) cs c l h =
+    let a = l .0 in
+    let e : c - d .len - total pre ≡ c - (d .len + total pre) = omega arith in
+    rw (ne-eqb c 0 (omega arith), le-leb (d .len) c (omega arith)) (used-skip pre cs (c - d .len) (l .2) (omega arith) ∙ ap (usedAt cs) e)

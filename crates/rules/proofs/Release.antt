@@ -14,7 +14,7 @@ use Rattle.rules.specs.Ops.{Ops}
 use Rattle.rules.specs.Steps.{leftFree, rightFree, merge}
 use Rattle.rules.proofs.Bytes.{mergeStep, releaseStep}
 use Rattle.rules.proofs.Store.{LinkStore}
-use Rattle.rules.specs.Chunks.{Chunk, free, busy, total, usedHead, Legal, Calm, release, either}
+use Rattle.rules.specs.Chunks.{Chunk, free, busy, total, usedHead, Legal, Calm, release}
 use Rattle.rules.proofs.Chunks.{total-append, usedLast, merge-neither, merge-right, merge-left, merge-both}
 use Rattle.rules.specs.Tags.{Tags}
 use Rattle.rules.proofs.Tags.{lastUsed, last-used, calm-front, calm-last, tags-back}

@@ -14,7 +14,7 @@ use Rattle.rules.specs.Lists.{Mem}
 use Rattle.rules.proofs.Seg.{seg-agree}
 use Rattle.rules.specs.Ops.{Ops}
 use Rattle.rules.specs.Steps.{lengthAt, takeChunk, releaseChunk, oneChunk}
-use Rattle.rules.proofs.Bytes.{takeStep, releaseStep, take-words, release-words}
+use Rattle.rules.proofs.Bytes.{releaseStep, take-words, release-words}
 use Rattle.rules.specs.Chunks.{Chunk, free, busy, total, Calm, release}
 use Rattle.rules.specs.Exact.{slot}
 use Rattle.rules.proofs.Tags.{tags-agree, calm-left}
@@ -28,7 +28,7 @@ use Rattle.rules.proofs.Search.{find-fits, Fits}
 use Rattle.rules.specs.Place.{indexAt, usedAt}
 use Rattle.rules.proofs.Place.{free-at, index-at, used-at}
 use Rattle.rules.proofs.Named.{size-at, byte-at}
-use Rattle.words.specs.Sizes.{classOf, roundedOf, startOf}
+use Rattle.words.specs.Sizes.{classOf, roundedOf}
 use Rattle.rules.proofs.Threshold.{cls6}
 use Rattle.rules.specs.TwoRuns.{Event, requests, run, answers, Allowed, replies, steps}
 use Rattle.rules.specs.TwoRuns as two
@@ -36,7 +36,7 @@ use Rattle.rules.proofs.TwoRun.{Laws, two-runs, run-abs, run-answers}
 use Rattle.words.specs.Links.{Width}
 use Rattle.rules.proofs.Widths.{WidthLaws}
 use Rattle.rules.specs.State.{ops}
-use Rattle.rules.specs.Rules.{Figures, says, byteOf, nameOf, Chosen, none, one, choose, withCached, released, fromList, fromCache, serve, handOut, live, settled, takeBack}
+use Rattle.rules.specs.Rules.{Figures, says, byteOf, nameOf, Chosen, none, one, choose, withCached, released, fromList, fromCache, serve, handOut, settled, takeBack}
 use Rattle.rules.specs.Machine.{Model, Request, ask, give, callM, sizeM, searched, searchM, liveM, gaveM, settledM, takeBackM, madeM}
 use Rattle.rules.specs.Sound.{Accepted, Shows}
 use Rattle.rules.proofs.Base.{Edition, Follows, shown, whole, L, search-same, met-free, used-size, left-there, live-same, live-is, r16, r8}

@@ -1,7 +1,7 @@
 -- DOCUMENT 01, "Reckoned by hand": the P entries, as one table and one claim about the rules themselves. A table is true of a kind of heap, so that another
 -- link width or number of cache places can be held to it too.
 use mathlib.Core.Path.{_≡_, refl}
-use mathlib.Core.Bool.{Bool, true, false, _&&_}
+use mathlib.Core.Bool.{Bool, true, _&&_}
 use mathlib.Core.List.{List, [], _∷_}
 use Prim.Native.Nat.{ℕ}
 use lib.Dec.{eqb}

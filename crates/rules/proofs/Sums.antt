@@ -1,52 +1,14 @@
--- Sums and counts of a layout: in use, free, and that free chunks never outnumber used ones by more than one. Assumes nothing.
+-- SUMS: a handout adds to the used bytes what it takes, and a release takes its chunk's length off. Assumes nothing.
 use mathlib.Core.Path.{_≡_, refl, ap}
 use mathlib.Core.Bool.{Bool, true, false}
 use mathlib.Core.List.{List, [], _∷_}
-use Prim.Native.Nat.{ℕ, zero, suc, _+_, _-_, _≤_, _<_}
+use Prim.Native.Nat.{ℕ, zero, suc, _+_, _-_, _<_}
 use native.Mathlib.Omega.{arith}
 use native.Mathlib.Nat.{not-suc-le-zero, le-of-suc-le-suc}
 use lib.Dec.{leb}
 use lib.ListN.{length, getD}
 use Rattle.words.specs.Choice.{pick}
-use Rattle.rules.specs.Chunks.{Chunk, free, busy, total, Calm, usedHead, either, join, release, taken, cut, usedSum}
-
-abbrev pub freeSum : List Chunk → ℕ
-freeSum [] = 0
-freeSum (c ∷ cs) = pick (c .used) 0 (c .len) + freeSum cs
-
-abbrev pub usedCount : List Chunk → ℕ
-usedCount [] = 0
-usedCount (c ∷ cs) = pick (c .used) 1 0 + usedCount cs
-
-abbrev pub freeCount : List Chunk → ℕ
-freeCount [] = 0
-freeCount (c ∷ cs) = pick (c .used) 0 1 + freeCount cs
-
--- in use and free bytes fill the heap
-pub sums : (cs : List Chunk) → usedSum cs + freeSum cs ≡ total cs
-sums [] = refl
-sums (c ∷ cs) = go (c .used) (sums cs)
-  where
-    go : (u : Bool) → usedSum cs + freeSum cs ≡ total cs → pick u (c .len) 0 + usedSum cs + (pick u 0 (c .len) + freeSum cs) ≡ c .len + total cs
-    go true r = omega arith
-    go false r = omega arith
-
-counts : (cs : List Chunk) → Calm cs → freeCount cs ≤ usedCount cs + pick (usedHead cs) 0 1
-counts [] k = omega arith
-counts (c ∷ cs) k = go (c .used) (usedHead cs) (k .0) (counts cs (k .1))
-  where
-    go : (u h : Bool) → either u h ≡ true → freeCount cs ≤ usedCount cs + pick h 0 1 → pick u 0 1 + freeCount cs ≤ pick u 1 0 + usedCount cs + pick u 0 1
-    go true true e r = omega arith
-    go true false e r = omega arith
-    go false true e r = omega arith
-    go false false e r = absurd (let z : _≡_ {A = ℕ} 0 1 = cc in omega arith)
-
-pub alternate : (cs : List Chunk) → Calm cs → freeCount cs ≤ usedCount cs + 1
-alternate cs k = go (usedHead cs) (counts cs k)
-  where
-    go : (h : Bool) → freeCount cs ≤ usedCount cs + pick h 0 1 → freeCount cs ≤ usedCount cs + 1
-    go true r = omega arith
-    go false r = omega arith
+use Rattle.rules.specs.Chunks.{Chunk, free, busy, either, join, release, taken, cut, usedSum}
 
 join-used-sum : (c : Chunk) (cs : List Chunk) → usedSum (join c cs) ≡ pick (c .used) (c .len) 0 + usedSum cs
 unfolding join
