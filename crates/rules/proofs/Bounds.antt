@@ -39,7 +39,8 @@ use Rattle.rules.specs.Rules.{Figures, byteOf, nameOf, firstFit, live}
 use Rattle.rules.specs.Machine.{Model, sizeM, searched}
 use Rattle.rules.specs.Sound.{Accepted, Shows}
 use Rattle.rules.specs.Test.{soundᵇ}
-use Rattle.rules.proofs.Base.{Edition, L, whole, few, search-same, met-free, met-size, used-size, left-there, live-same, live-is}
+use Rattle.rules.proofs.Store.{Edition}
+use Rattle.rules.proofs.Follow.{L, whole, few, search-same, met-free, met-size, used-size, left-there, live-same, live-is}
 use Rattle.rules.proofs.Decide.{sound-true}
 
 -- ---- sums of a layout

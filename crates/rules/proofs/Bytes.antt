@@ -1,4 +1,4 @@
--- The steps of taking and releasing by bytes, as the theory has them, and that the rules' steps by words are these. Assumes nothing.
+-- TAKING AND RELEASING BY BYTES, where the chunks are counted, and that the rules' steps by words are these. Assumes nothing.
 use mathlib.Core.Path.{_≡_, refl, sym, ap, _∙_}
 use mathlib.Core.Bool.{Bool, true, false}
 use Prim.Native.Nat.{ℕ, _+_, _-_, _*_, _/_, _%_, _≤_}

@@ -15,7 +15,7 @@ use Rattle.rules.specs.Search.{Found, at, nowhere, lost}
 use Rattle.rules.proofs.Search.{find-fits, Fits}
 use Rattle.rules.specs.Rules.{Figures, Outcome, says, byteOf, nameOf, Chosen, none, one, choose, withCached, firstFit, fromList, fromCache, serve, handOut, live, settled, takeBack}
 use Rattle.rules.specs.Machine.{Model, sizeM, tookM, searched, searchM, fromListM, fromCacheM, handOutM, liveM, settledM, takeBackM}
-use Rattle.rules.proofs.Base.{choose-picked, Picked}
+use Rattle.rules.proofs.Follow.{choose-picked, Picked}
 
 module _ {S : Type 0} (op : Ops S Figures) (places : ℕ) (sound : S → Bool) (s : S) where
   -- HANDING OUT: 1, 2, 5, or served

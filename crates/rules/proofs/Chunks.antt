@@ -1,4 +1,4 @@
--- The chunks, left to right, as a list: releasing with its merges, and taking with its split. Assumes nothing.
+-- Laws of specs/Chunks.antt: what keeps free chunks from touching and lengths legal; the four merges around a place. Assumes nothing.
 use mathlib.Core.Path.{_≡_, refl, sym, ap, _∙_}
 use mathlib.Core.Bool.{Bool, true, false}
 use mathlib.Core.List.{List, [], _∷_, _++_}

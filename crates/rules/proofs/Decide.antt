@@ -1,4 +1,4 @@
--- SOUND, TESTED: an executable test, and that it says yes exactly for a sound state; the model that a state shows is one. Assumes nothing.
+-- SOUND, TESTED: the test says yes exactly for a sound state; and the model that a state shows is one. Assumes nothing.
 use mathlib.Core.Path.{_≡_, refl, sym, ap, _∙_, subst}
 use mathlib.Core.Bool.{Bool, true, false, not}
 use mathlib.Core.List.{List, [], _∷_, List·Memᴰ, List·Memᴰ·head, List·Memᴰ·tail, List·Memᴰ·not-nil}
@@ -19,13 +19,14 @@ use Rattle.rules.specs.Exact.{Slot, slot, In, frees, Exact}
 use Rattle.rules.specs.Place.{usedAt}
 use Rattle.words.specs.Sizes.{classOf}
 use Rattle.rules.proofs.Threshold.{cls6}
-use Rattle.rules.proofs.Audit.{tile-tags}
+use Rattle.rules.proofs.Enough.{tile-tags}
 use Rattle.rules.specs.Test.{both, legalᵇ, calmᵇ, tagsᵇ, segᵇ, belowᵇ, everyᵇ, slotᵇ, exactᵇ, distinctᵇ, underᵇ, cacheᵇ, figuresᵇ, showsᵇ, candidate, soundᵇ}
 use Rattle.rules.proofs.Named.{order-few}
 use Rattle.rules.specs.Rules.{Figures, byteOf, listed}
 use Rattle.rules.specs.Machine.{Model}
 use Rattle.rules.specs.Sound.{Under, CacheRight, FiguresRight, Shows, Sound}
-use Rattle.rules.proofs.Base.{Edition, whole, few, L, listed-true, listed-false}
+use Rattle.rules.proofs.Store.{Edition}
+use Rattle.rules.proofs.Follow.{whole, few, L, listed-true, listed-false}
 
 -- a Boolean that says whether P holds
 pub record Tells (b : Bool) (P : Type 0) : Type 0 where

@@ -26,7 +26,8 @@ use Rattle.rules.specs.Machine.{Model, sizeM, searched, searchM, handOut
 use Rattle.rules.specs.Sound.{Shows, Sound}
 use Rattle.rules.specs.Test.{soundᵇ}
 use Rattle.rules.specs.Demands.{NoFit, FromCache, FromList, LiveAt, hand, back}
-use Rattle.rules.proofs.Base.{Edition, Follows, handOut-follows, takeBack-follows, live-is, listed-true}
+use Rattle.rules.proofs.Store.{Edition}
+use Rattle.rules.proofs.Follow.{Follows, handOut-follows, takeBack-follows, live-is, listed-true}
 use Rattle.rules.proofs.Cases.{hand-cases, serve-cases, back-cases, handM-cases, serveM-cases, backM-cases}
 use Rattle.rules.proofs.Decide.{sound-true, true-sound}
 

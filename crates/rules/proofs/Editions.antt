@@ -12,7 +12,7 @@ use Rattle.words.specs.Choice.{pick}
 use Rattle.words.specs.Links.{Width, narrow, wide}
 use Rattle.rules.proofs.Widths.{WidthLaws}
 use Rattle.rules.specs.Steps.{link, markFree, oneChunk}
-use Rattle.rules.proofs.Store.{LinkStore}
+use Rattle.rules.proofs.Store.{LinkStore, Edition}
 use Rattle.rules.specs.State.{ops}
 use Rattle.rules.proofs.Heap.{store}
 use Rattle.rules.proofs.Rings.{Rings, empty-rings}
@@ -20,7 +20,7 @@ use Rattle.rules.proofs.Make.{made-whole}
 use Rattle.rules.specs.Rules.{Figures}
 use Rattle.rules.specs.Machine.{madeM}
 use Rattle.rules.specs.Sound.{Accepted, Shows}
-use Rattle.rules.proofs.Base.{Edition, shown}
+use Rattle.rules.proofs.Follow.{shown}
 use Rattle.rules.specs.Making.{selves, fresh, acceptedᵇ}
 
 pos : (most n : ℕ) → Accepted most n → 0 < n

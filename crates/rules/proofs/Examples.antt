@@ -30,7 +30,7 @@ use Rattle.rules.specs.Test.{legalᵇ, calmᵇ, tagsᵇ, segᵇ, below�
 use Rattle.rules.specs.TwoRuns.{Event, asks, writes, Acts, requests, run, answers, Allowed, replies}
 use Rattle.rules.specs.Runs.{LiveWord, Live, Same, acts, call, machine}
 use Rattle.rules.specs.Table.{Kind, base, made, after}
-use Rattle.rules.proofs.Base.{Edition}
+use Rattle.rules.proofs.Store.{Edition}
 use Rattle.rules.proofs.Runs.{follows, write-shows}
 use Rattle.rules.proofs.Proved.{narrow-edition, narrow-making, narrow-demands}
 

@@ -22,11 +22,11 @@ pub mod Named
 pub mod Make
 pub mod Keep
 pub mod KeepLive
-pub mod Audit
+pub mod Enough
 pub mod Sums
 pub mod Threshold
 pub mod LayoutFacts
-pub mod Base
+pub mod Follow
 pub mod Decide
 pub mod Editions
 pub mod Exactly

@@ -17,7 +17,7 @@ use Rattle.rules.specs.Machine.{madeM}
 use Rattle.rules.specs.Sound.{Accepted, Shows}
 use Rattle.rules.specs.Claims.{Iff, Demands, MakingSound}
 use Rattle.rules.proofs.Widths.{WidthLaws, narrow-laws, wide-laws}
-use Rattle.rules.proofs.Base.{Edition}
+use Rattle.rules.proofs.Store.{Edition}
 use Rattle.rules.proofs.Decide.{sound-true, true-sound, layout-unique, orders-unique, figures-unique}
 use Rattle.rules.proofs.Editions.{edition, narrow-fits, wide-fits, made-shows, accepted-true, true-accepted}
 use Rattle.rules.proofs.Demands.{hand-numbers, back-numbers, hand-refused, back-refused, hand-returned, back-returned, hand-zero, hand-large, hand-sound, back-sound, hand-fine, back-fine, hand-damaged, back-damaged, noFit-exact, notLive-exact, position, compared-small, compared-small-refused, compared-large-refused}

@@ -1,4 +1,4 @@
--- Releasing as the code does it, reading its neighbours from the tags, is releasing on the layout. Assumes nothing.
+-- Releasing as the rules do it, reading its neighbours from the tags, is releasing on the layout. Assumes nothing.
 use mathlib.Core.Path.{_≡_, refl, sym, ap, _∙_, subst}
 use mathlib.Core.Bool.{Bool, true, false}
 use mathlib.Core.List.{List, [], _∷_, _++_, append-assoc}

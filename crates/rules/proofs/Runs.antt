@@ -39,7 +39,8 @@ use Rattle.rules.specs.State.{ops}
 use Rattle.rules.specs.Rules.{Figures, says, byteOf, nameOf, Chosen, none, one, choose, withCached, released, fromList, fromCache, serve, handOut, settled, takeBack}
 use Rattle.rules.specs.Machine.{Model, Request, ask, give, callM, sizeM, searched, searchM, liveM, gaveM, settledM, takeBackM, madeM}
 use Rattle.rules.specs.Sound.{Accepted, Shows}
-use Rattle.rules.proofs.Base.{Edition, Follows, shown, whole, L, search-same, met-free, used-size, left-there, live-same, live-is, r16, r8}
+use Rattle.rules.proofs.Store.{Edition}
+use Rattle.rules.proofs.Follow.{Follows, shown, whole, L, search-same, met-free, used-size, left-there, live-same, live-is, r16, r8}
 use Rattle.rules.proofs.Decide.{true-sound, layout-unique}
 use Rattle.rules.specs.Test.{soundᵇ}
 use Rattle.rules.specs.Demands.{hand, back}

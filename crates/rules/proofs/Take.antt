@@ -1,4 +1,4 @@
--- Taking a free chunk of the layout for z bytes, as the code does it, is taking on the layout; and making. Assumes nothing.
+-- Taking a free chunk of the layout for z bytes, as the rules do it, is taking on the layout. Assumes nothing.
 use mathlib.Core.Path.{_≡_, refl, ap}
 use mathlib.Core.Bool.{Bool, true, false}
 use mathlib.Core.List.{List, [], _∷_, _++_}

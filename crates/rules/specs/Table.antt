@@ -8,7 +8,8 @@ use lib.Dec.{eqb}
 use lib.ListN.{getD, replicate}
 use Rattle.words.specs.Sizes.{roundedOf, classOf}
 use Rattle.words.specs.Links.{Width, narrow, setLinkAt}
-use Rattle.rules.specs.Steps.{unlink, link, setLeft, clearLeft, markFree, markUsed, oneChunk, returnExcess, takeChunk, leftFree, rightFree, merge, merged, releaseChunk}
+use Rattle.rules.specs.Steps.{unlink, link, setLeft, clearLeft, markFree, markUsed, oneChunk, returnExcess, takeChunk}
+use Rattle.rules.specs.Steps.{leftFree, rightFree, merge, merged, releaseChunk}
 use Rattle.rules.specs.State.{ops}
 use Rattle.rules.specs.Search.{findWalk, searchAll}
 use Rattle.rules.specs.Place.{usedAt, usedWalk}

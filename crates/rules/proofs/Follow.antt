@@ -1,4 +1,4 @@
--- The rules on states follow the rules without memory, cache and figures included; so soundness is kept. Assumes nothing.
+-- THE RULES ON STATES FOLLOW THE RULES WITHOUT MEMORY, cache and figures included; so soundness is kept. Assumes nothing.
 use mathlib.Core.Path.{_≡_, refl, sym, ap, _∙_, subst, fun-ext}
 use mathlib.Core.Logic.{_≢_, _⊎_, inl, inr}
 use mathlib.Core.Bool.{Bool, true, false}
@@ -15,7 +15,7 @@ use Rattle.rules.specs.Lists.{Mem, Distinct, Seg}
 use Rattle.rules.specs.Ops.{Ops}
 use Rattle.rules.specs.Steps.{portion, lengthAt, takeChunk, releaseChunk, leftFree}
 use Rattle.rules.proofs.Bytes.{takeStep, releaseStep, take-words, release-words}
-use Rattle.rules.proofs.Store.{LinkStore}
+use Rattle.rules.proofs.Store.{LinkStore, Edition}
 use Rattle.rules.proofs.Rings.{ring-once}
 use Rattle.rules.specs.Chunks.{Chunk, free, busy, total, Legal, Calm, taken, release, usedSum}
 use Rattle.rules.proofs.Chunks.{total-append, taken-calm, release-calm}
@@ -33,7 +33,7 @@ use Rattle.rules.specs.Place.{lenAt, usedAt}
 use Rattle.rules.proofs.Place.{free-at, len-at, index-at, used-walk, used-at, header-len, bit-le}
 use Rattle.words.specs.Sizes.{classOf, roundedOf, startOf}
 use Rattle.rules.proofs.Threshold.{cls6}
-use Rattle.rules.proofs.Audit.{enough}
+use Rattle.rules.proofs.Enough.{enough}
 use Rattle.rules.proofs.Named.{chunks-few, size-at, byte-at, size-same, listed-few}
 use Rattle.rules.specs.Rules.{Figures, Outcome, says, byteOf, nameOf, Chosen, none, one, behind, serves, choose, listed, withCached, counted, released, firstFit, fromList, fromCache, serve, handOut, live, settled, takeBack}
 use Rattle.rules.specs.Machine.{Model, sizeM, tookM, searched, searchM, fromListM, fromCacheM, handOutM, liveM, gaveM, settledM, takeBackM}
@@ -161,12 +161,6 @@ drop-seam (d ∷ pre) c post = drop-seam pre c post
 abbrev model : List Chunk → (ℕ → List ℕ) → Figures → Model
 model cs O f = record { cs = cs; orders = O; figs = f }
 
--- AN EDITION: for each accepted length a link store over the same operations
-pub record Edition {S : Type 0} (op : Ops S Figures) (most places : ℕ) : Type 1 where
-  pub store : (n : ℕ) → Accepted most n → LinkStore op
-  pub bytes : (n : ℕ) (a : Accepted most n) → store n a .bytes ≡ 4 * (n - 1)
-  pub fit : (n : ℕ) (a : Accepted most n) (r : Figures) → length (r .cached) ≤ places → ((x : ℕ) → Mem x (r .cached) → 6 ≤ x) → store n a .Fit r
-
 -- an outcome on states follows one on models
 pub record Follows {S : Type 0} (op : Ops S Figures) (most places : ℕ) (o : Outcome S) (q : Outcome Model) : Type 0 where
   pub number : o .number ≡ q .number
@@ -181,7 +175,7 @@ module _ {S : Type 0} {op : Ops S Figures} {most places : ℕ} (E : Edition op m
   abbrev F : Outcome S → Outcome Model → Type 0
   F = Follows op most places
 
-  -- BACK to Sound from the theory's form
+  -- from a whole heap BACK to what a state shows
   pub shown : (n : ℕ) (a : Accepted most n) (t : S) (m : Model) → Whole (E .store n a) classOf cls6 t (m .orders) (m .cs) → Calm (m .cs) → op .rest t ≡ m .figs → m .figs .words ≡ n
       → CacheRight places (m .figs .cached) (m .cs) → FiguresRight (m .figs) (4 * (n - 1)) (m .cs) → Sh t m
   shown n a t m w k r e c f =
@@ -227,7 +221,7 @@ module _ {S : Type 0} {op : Ops S Figures} {most places : ℕ} (E : Edition op m
     pub bytes : L .bytes ≡ 4 * (op .count s - 1)
     bytes = E .bytes (op .count s) (h .accepted)
 
-    -- INTO the theory's form
+    -- INTO a whole heap
     pub whole : Whole L classOf cls6 s (m .orders) (m .cs)
     whole =
         enough L classOf cls6 s (m .orders) (m .cs) (L .good-is s bytes (h .accepted .0) (h .six)) (h .legal) (h .fills ∙ sym bytes) (h .tags) (h .lists) (h .exact)
