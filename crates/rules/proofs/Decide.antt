@@ -102,7 +102,8 @@ tells-below f P t (suc n) = tells-map (λ p k h. one p k h (ℕ-discrete k n)) (
 tells-every : {A : Type 0} (f : A → Bool) (P : A → Type 0) → ((x : A) → Tells (f x) (P x)) → (xs : List A) → Tells (everyᵇ f xs) ((x : A) → List·Memᴰ x xs → P x)
 unfolding everyᵇ
 tells-every f P t [] = record { to = λ e x m. absurd (List·Memᴰ·not-nil m); from = λ g. refl }
-tells-every {A = A} f P t (x ∷ xs) = tells-map (λ p y m. one p y m) (λ g. (g x (List·Memᴰ·head refl), λ y m. g y (List·Memᴰ·tail m))) (tells-and (t x) (tells-every f P t xs))
+tells-every {A = A} f P t (x ∷ xs) =
+    tells-map (λ p y m. one p y m) (λ g. (g x (List·Memᴰ·head refl), λ y m. g y (List·Memᴰ·tail m))) (tells-and (t x) (tells-every f P t xs))
   where
     one : P x × ((y : A) → List·Memᴰ y xs → P y) → (y : A) → List·Memᴰ y (x ∷ xs) → P y
     one p y (List·Memᴰ·head e) = subst P (sym e) (p .0)
@@ -140,7 +141,8 @@ tells-exact O F =
     (λ p. record { listed = λ x n m. p .0 (slot x n) m; only = λ k x h m. p .1 k h x m })
     (λ e. (λ t m. e .listed (t .name) (t .len) m, λ k h x m. e .only k x h m))
     (tells-and
-    (tells-every (λ t. listed (t .name) (O (classOf (t .len)))) (λ (t : Slot). Mem (t .name) (O (classOf (t .len)))) (λ t. tells-listed (t .name) (O (classOf (t .len)))) F)
+    (tells-every (λ t. listed (t .name) (O (classOf (t .len)))) (λ (t : Slot). Mem (t .name) (O (classOf (t .len))))
+    (λ t. tells-listed (t .name) (O (classOf (t .len)))) F)
     (tells-below (λ k. everyᵇ (λ x. slotᵇ x k F) (O k)) (λ k. (x : ℕ) → Mem x (O k) → (n : ℕ) × In (slot x n) F × (classOf n ≡ k))
     (λ k. tells-every (λ x. slotᵇ x k F) (λ (x : ℕ). (n : ℕ) × In (slot x n) F × (classOf n ≡ k)) (λ x. tells-slot x k F) (O k)) 6))
 
@@ -165,7 +167,8 @@ tells-cache : (places : ℕ) (ks : List ℕ) (cs : List Chunk) → Tells (cache�
 unfolding cacheᵇ
 tells-cache places ks cs =
     tells-map (λ p. record { used = p .0; once = p .1 .0; room = p .1 .1 }) (λ c. (c .used, (c .once, c .room)))
-    (tells-and (tells-every (λ x. both (leb 6 x) (leb 1 (usedAt cs (byteOf x)))) (λ (x : ℕ). (6 ≤ x) × (0 < usedAt cs (byteOf x))) (λ x. tells-and (tells-le 6 x) (tells-le 1 (usedAt cs (byteOf x)))) ks)
+    (tells-and (tells-every (λ x. both (leb 6 x) (leb 1 (usedAt cs (byteOf x)))) (λ (x : ℕ). (6 ≤ x) × (0 < usedAt cs (byteOf x)))
+    (λ x. tells-and (tells-le 6 x) (tells-le 1 (usedAt cs (byteOf x)))) ks)
     (tells-and (tells-distinct ks) (tells-le (length ks) places)))
 
 tells-figures : (f : Figures) (b : ℕ) (cs : List Chunk) → Tells (figuresᵇ f b cs) (FiguresRight f b cs)
@@ -178,7 +181,8 @@ tells-figures f b cs =
     (tells-and (tells-eq (f .high % 8) 0) (tells-under (f .high) 0 cs))))))
 
 -- with the figures given, the test tells whether s shows m
-pub tells-shows : {S : Type 0} (op : Ops S Figures) (most places : ℕ) (s : S) (m : Model) → op .rest s ≡ m .figs → Tells (showsᵇ op most places s m) (Shows op most places s m)
+pub tells-shows : {S : Type 0} (op : Ops S Figures) (most places : ℕ) (s : S) (m : Model) → op .rest s ≡ m .figs
+    → Tells (showsᵇ op most places s m) (Shows op most places s m)
 unfolding showsᵇ
 tells-shows op most places s m fe =
     tells-map
@@ -196,12 +200,22 @@ tells-shows op most places s m fe =
       cache = p .1 .1 .1 .1 .1 .1 .1 .1 .1 .1 .1 .0;
       right = p .1 .1 .1 .1 .1 .1 .1 .1 .1 .1 .1 .1;
     })
-    (λ h. (h .six, (h .words, (h .accepted .0, (h .accepted .1, (h .accepted .2, (h .legal, (h .fills, (h .tags, (h .calm, (h .lists, (h .exact, (h .cache, h .right)))))))))))))
+    (λ h. (
+      h .six,
+      (
+        h .words,
+        (
+          h .accepted .0,
+          (h .accepted .1, (h .accepted .2, (h .legal, (h .fills, (h .tags, (h .calm, (h .lists, (h .exact, (h .cache, h .right))))))))),
+        ),
+      ),
+    ))
     (tells-and (tells-bool (op .six s)) (tells-and (tells-eq (m .figs .words) (op .count s))
     (tells-and (tells-le 5 (op .count s)) (tells-and (tells-le (op .count s) most) (tells-and (tells-eq (op .count s % 2) 1)
     (tells-and (tells-legal (m .cs)) (tells-and (tells-eq (total (m .cs)) (4 * (op .count s - 1)))
     (tells-and (tells-tags (op .word s) 0 true (m .cs)) (tells-and (tells-calm (m .cs))
-    (tells-and (tells-below (λ k. segᵇ (op .next s) (op .prev s) k (m .orders k) k) (λ k. Seg (op .next s) (op .prev s) k (m .orders k) k) (λ k. tells-seg (op .next s) (op .prev s) k (m .orders k) k) 6)
+    (tells-and (tells-below (λ k. segᵇ (op .next s) (op .prev s) k (m .orders k) k) (λ k. Seg (op .next s) (op .prev s) k (m .orders k) k)
+    (λ k. tells-seg (op .next s) (op .prev s) k (m .orders k) k) 6)
     (tells-and (tells-exact (m .orders) (frees 0 (m .cs)))
     (tells-and (tells-cache places (m .figs .cached) (m .cs)) (tells-figures (m .figs) (4 * (op .count s - 1)) (m .cs))))))))))))))
 
@@ -241,7 +255,9 @@ module _ {S : Type 0} {op : Ops S Figures} {most places : ℕ} (E : Edition op m
       calm = subst Calm (sym chunks-are) (h .calm);
       lists = λ k q. subst (λ xs. Seg (op .next s) (op .prev s) k xs k) (sym (orders-are k q)) (h .lists k q);
       exact = subst (λ cs. Exact classOf (candidate op most places s .orders) (frees 0 cs)) (sym chunks-are) exact-is;
-      cache = subst (λ cs. CacheRight places (op .rest s .cached) cs) (sym chunks-are) (subst (λ (f : Figures). CacheRight places (f .cached) (m .cs)) (sym (h .figs)) (h .cache));
+      cache =
+          subst (λ cs. CacheRight places (op .rest s .cached) cs) (sym chunks-are)
+          (subst (λ (f : Figures). CacheRight places (f .cached) (m .cs)) (sym (h .figs)) (h .cache));
       right = subst (λ cs. FiguresRight (op .rest s) (4 * (op .count s - 1)) cs) (sym chunks-are)
           (subst (λ (f : Figures). FiguresRight f (4 * (op .count s - 1)) (m .cs)) (sym (h .figs)) (h .right));
     }

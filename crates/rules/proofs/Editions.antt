@@ -76,7 +76,9 @@ module _ {W : Width} (E : WidthLaws W) (most places : ℕ) (f : most + 6 ≤ W .
   made-shows =
       let h : 16 ≤ 4 * (length ws - 1) = omega arith in
       let o : 4 * (length ws - 1) % 8 ≡ 0 =
-      let k : length ws - 1 ≡ 2 * (length ws / 2) = omega arith in let j : 4 * (length ws - 1) ≡ length ws / 2 * 8 + 0 = omega arith in ap (λ (x : ℕ). x % 8) j ∙ digits-mod (length ws / 2) (lit< tt) in
-      shown (edition E most places f) (length ws) a (oneChunk (ops {R = Figures} W) (fresh ws) (4 * (length ws - 1))) (madeM (length ws)) (made-whole L h o (fresh ws) fresh-rings) (refl, tt) refl refl
+      let k : length ws - 1 ≡ 2 * (length ws / 2) = omega arith in let j : 4 * (length ws - 1) ≡ length ws / 2 * 8 + 0 = omega arith in
+      ap (λ (x : ℕ). x % 8) j ∙ digits-mod (length ws / 2) (lit< tt) in
+      shown (edition E most places f) (length ws) a (oneChunk (ops {R = Figures} W) (fresh ws) (4 * (length ws - 1))) (madeM (length ws))
+      (made-whole L h o (fresh ws) fresh-rings) (refl, tt) refl refl
       (record { used = λ x m. absurd (List·Memᴰ·not-nil m); once = tt; room = omega arith })
       (record { inUse = refl; peak = omega arith; high = omega arith; heap = omega arith; eights = refl; ends = (omega arith, tt) })

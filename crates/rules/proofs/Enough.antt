@@ -92,8 +92,10 @@ module _ {S R : Type 0} {op : Ops S R} (L : LinkStore op) (cls : ℕ → ℕ) (c
           let a16 : 16 ≤ p .0 = a .0 in
           let t8 = total-8 (f .pre) (legal-front (f .pre) (free (p .0) ∷ f .post) l′) in
           let y = total-append (f .pre) (free (p .0) ∷ f .post) in
-          let w : total (f .pre ++ free (p .0) ∷ f .post) ≡ L .bytes = sym (ap total (f .is)) ∙ z in
-          (subst (λ (v : ℕ). L .Node v) (sym (f .named)) (L .fit (0 + total (f .pre)) (omega arith) (omega arith)), (let q : x ≡ (0 + total (f .pre)) / 4 + 6 = f .named in omega arith))
+          let w : total (f .pre ++ free (p .0) ∷ f .post) ≡ L .bytes = sym (ap total (f .is)) ∙ z in (
+            subst (λ (v : ℕ). L .Node v) (sym (f .named)) (L .fit (0 + total (f .pre)) (omega arith) (omega arith)),
+            (let q : x ≡ (0 + total (f .pre)) / 4 + 6 = f .named in omega arith),
+          )
 
 pub tile-tags : (f : ℕ → ℕ) (fuel e : ℕ) (l : Bool) (cs : List Chunk) → Legal cs → length cs < fuel → Tags f e l cs → tile f fuel e ≡ cs
 unfolding tile

@@ -112,7 +112,8 @@ module _ (size : ℕ → ℕ) (O : ℕ → List ℕ) (classed : (j x : ℕ) → 
   pub few-compared : z < 512 → Few result 0
   few-compared h =
       let s = class-small z h in
-      find-few size z listed 0 (λ x m. let t = in-turn O (6 - startOf z) (startOf z) x m in let a = t .1 in let b = t .2 in serves s (t .0) x (omega arith) (omega arith) (t .3))
+      find-few size z listed 0 (λ x m. let t = in-turn O (6 - startOf z) (startOf z) x m in let a = t .1 in let b = t .2 in
+      serves s (t .0) x (omega arith) (omega arith) (t .3))
 
   -- COMPARED from 512 on, where nothing fits: all of list 5
   pub five-listed : 512 ≤ z → length listed ≡ length (O 5)

@@ -35,7 +35,8 @@ use Rattle.words.specs.Sizes.{classOf, roundedOf, startOf}
 use Rattle.rules.proofs.Threshold.{cls6}
 use Rattle.rules.proofs.Enough.{enough}
 use Rattle.rules.proofs.Named.{chunks-few, size-at, byte-at, size-same, listed-few}
-use Rattle.rules.specs.Rules.{Figures, Outcome, says, byteOf, nameOf, Chosen, none, one, behind, serves, choose, listed, withCached, counted, released, firstFit, fromList, fromCache, serve, handOut, live, settled, takeBack}
+use Rattle.rules.specs.Rules.{Figures, Outcome, says, byteOf, nameOf, Chosen, none, one, behind, serves, choose, listed, withCached, counted, released}
+use Rattle.rules.specs.Rules.{firstFit, fromList, fromCache, serve, handOut, live, settled, takeBack}
 use Rattle.rules.specs.Machine.{Model, sizeM, tookM, searched, searchM, fromListM, fromCacheM, handOutM, liveM, gaveM, settledM, takeBackM}
 use Rattle.rules.specs.Sound.{Accepted, Under, CacheRight, FiguresRight, Shows}
 use Rattle.rules.proofs.LayoutFacts.{release-used, taken-used, used-len, release-sums, taken-sums, under-more, under-release, under-taken}
@@ -104,7 +105,8 @@ under-sum : (h b : ℕ) (cs : List Chunk) → Under h b cs → (usedSum cs ≡ 0
 under-sum h b [] u = inl refl
 under-sum h b (c ∷ cs) u = go (c .used) refl (under-sum h (b + c .len) cs (u .1))
   where
-    go : (t : Bool) → c .used ≡ t → (usedSum cs ≡ 0) ⊎ (b + c .len + usedSum cs ≤ h) → (pick (c .used) (c .len) 0 + usedSum cs ≡ 0) ⊎ (b + (pick (c .used) (c .len) 0 + usedSum cs) ≤ h)
+    go : (t : Bool) → c .used ≡ t → (usedSum cs ≡ 0) ⊎ (b + c .len + usedSum cs ≤ h)
+        → (pick (c .used) (c .len) 0 + usedSum cs ≡ 0) ⊎ (b + (pick (c .used) (c .len) 0 + usedSum cs) ≤ h)
     go true e (inl q) = let a = u .0 in let f : pick (c .used) (b + c .len) 0 ≡ b + c .len = ap (λ (t : Bool). pick t (b + c .len) 0) e in
         let g : pick (c .used) (c .len) 0 ≡ c .len = ap (λ (t : Bool). pick t (c .len) 0) e in inr (omega arith)
     go true e (inr q) = let g : pick (c .used) (c .len) 0 ≡ c .len = ap (λ (t : Bool). pick t (c .len) 0) e in inr (omega arith)
@@ -176,7 +178,8 @@ module _ {S : Type 0} {op : Ops S Figures} {most places : ℕ} (E : Edition op m
   F = Follows op most places
 
   -- from a whole heap BACK to what a state shows
-  pub shown : (n : ℕ) (a : Accepted most n) (t : S) (m : Model) → Whole (E .store n a) classOf cls6 t (m .orders) (m .cs) → Calm (m .cs) → op .rest t ≡ m .figs → m .figs .words ≡ n
+  pub shown : (n : ℕ) (a : Accepted most n) (t : S) (m : Model) → Whole (E .store n a) classOf cls6 t (m .orders) (m .cs) → Calm (m .cs) → op .rest t ≡ m .figs
+      → m .figs .words ≡ n
       → CacheRight places (m .figs .cached) (m .cs) → FiguresRight (m .figs) (4 * (n - 1)) (m .cs) → Sh t m
   shown n a t m w k r e c f =
       let b = E .bytes n a in
@@ -265,7 +268,8 @@ module _ {S : Type 0} {op : Ops S Figures} {most places : ℕ} (E : Edition op m
         let t = tags-back (op .word s) 0 true (u .pre) (busy n ∷ u .post) (subst (λ cs. Tags (op .word s) 0 true cs) (u .is) (h .tags)) in
         let y : (x - 6) * 4 ≡ total (u .pre) = u .byte in
         let q : x - 6 ≡ (0 + total (u .pre)) / 4 = omega arith in
-        ap (λ (i : ℕ). op .word s i / 4 * 4) q ∙ header-len (op .word s ((0 + total (u .pre)) / 4)) n 1 (bit (lastUsed true (u .pre))) (l .1) (omega arith) (bit-le (lastUsed true (u .pre))) (t .0)
+        ap (λ (i : ℕ). op .word s i / 4 * 4) q ∙ header-len (op .word s ((0 + total (u .pre)) / 4)) n 1 (bit (lastUsed true (u .pre))) (l .1) (omega arith)
+        (bit-le (lastUsed true (u .pre))) (t .0)
 
     pub used-same : (x : ℕ) → 6 ≤ x → 0 < usedAt (m .cs) (byteOf x) → lengthAt op s x ≡ sizeM m x
     used-same x h6 p = used-size x h6 p ∙ sym (used-len (m .cs) (byteOf x) (h .legal) p)
@@ -319,8 +323,10 @@ module _ {S : Type 0} {op : Ops S Figures} {most places : ℕ} (E : Edition op m
         room = h .cache .room;
       } in
       rw (take-words op s (x - 6) (lengthAt op s x) z (omega arith), y, b, i, j, h .figs)
-      (shown (op .count s) a (op .setRest (takeStep op classOf s (0 + total pre) n z) g) (model (taken (pre ++ free n ∷ post) (length pre) z) (takenOrders classOf O (0 + total pre) n z) g)
-      (whole-rest L (takeStep op classOf s (0 + total pre) n z) g (takenOrders classOf O (0 + total pre) n z) (taken (pre ++ free n ∷ post) (length pre) z) (take-refines L classOf cls6 s O pre n post z z16 z8 (h .calm) w))
+      (shown (op .count s) a (op .setRest (takeStep op classOf s (0 + total pre) n z) g)
+      (model (taken (pre ++ free n ∷ post) (length pre) z) (takenOrders classOf O (0 + total pre) n z) g)
+      (whole-rest L (takeStep op classOf s (0 + total pre) n z) g (takenOrders classOf O (0 + total pre) n z) (taken (pre ++ free n ∷ post) (length pre) z)
+      (take-refines L classOf cls6 s O pre n post z z16 z8 (h .calm) w))
       (taken-calm (pre ++ free n ∷ post) (length pre) z (h .calm) (free-seam pre n post))
       (L .rest-setRest (takeStep op classOf s (0 + total pre) n z) g (E .fit (op .count s) a g (h .cache .room) (λ k q. (h .cache .used k q) .0)))
       (h .words) c
@@ -331,7 +337,8 @@ module _ {S : Type 0} {op : Ops S Figures} {most places : ℕ} (E : Edition op m
       free-seam pre n post = ap (λ (c : Chunk). c .used) (getD-append-seam pre (free n) post (busy 0))
 
   -- the free bytes on the left of a used chunk: words that stand before it
-  pub left-there : (L : LinkStore op) (s : S) (pre : List Chunk) (n : ℕ) (post : List Chunk) (k : ℕ) → byteOf k ≡ total pre → 6 ≤ k → Legal (pre ++ busy n ∷ post) → Tags (op .word s) 0 true (pre ++ busy n ∷ post)
+  pub left-there : (L : LinkStore op) (s : S) (pre : List Chunk) (n : ℕ) (post : List Chunk) (k : ℕ) → byteOf k ≡ total pre → 6 ≤ k → Legal (pre ++ busy n ∷ post)
+      → Tags (op .word s) 0 true (pre ++ busy n ∷ post)
       → (leftFree op s (k - 6) % 8 ≡ 0) × (leftFree op s (k - 6) / 4 ≤ k - 6)
   left-there L s pre n post k e k6 l t =
       let q : k - 6 ≡ (0 + total pre) / 4 = omega arith in
@@ -342,7 +349,8 @@ module _ {S : Type 0} {op : Ops S Figures} {most places : ℕ} (E : Edition op m
 
   -- RELEASED, the chunks ks staying cached
   gave : (s : S) (pre : List Chunk) (n : ℕ) (post : List Chunk) (O : ℕ → List ℕ) (f : Figures) (k : ℕ) (ks : List ℕ) → byteOf k ≡ total pre → 6 ≤ k
-      → 0 < usedAt (pre ++ busy n ∷ post) (byteOf k) → ((x : ℕ) → Mem x ks → (6 ≤ x) × (0 < usedAt (pre ++ busy n ∷ post) (byteOf x))) → Distinct (k ∷ ks) → length ks ≤ places
+      → 0 < usedAt (pre ++ busy n ∷ post) (byteOf k) → ((x : ℕ) → Mem x ks → (6 ≤ x) × (0 < usedAt (pre ++ busy n ∷ post) (byteOf x))) → Distinct (k ∷ ks)
+      → length ks ≤ places
       → Sh s (model (pre ++ busy n ∷ post) O f)
       → Sh (op .setRest (releaseChunk op s (k - 6) (lengthAt op s k)) (released (op .rest s) ks (lengthAt op s k)))
       (gaveM (model (pre ++ busy n ∷ post) O f) ks (byteOf k) (lenAt (pre ++ busy n ∷ post) (byteOf k)))
@@ -371,12 +379,21 @@ module _ {S : Type 0} {op : Ops S Figures} {most places : ℕ} (E : Edition op m
       rw (release-words op s (k - 6) (lengthAt op s k) (omega arith) (lt .1), y, b, i, j′, take-append-seam pre (busy n ∷ post), drop-seam pre (busy n) post, h .figs)
       (shown (op .count s) a (op .setRest (releaseStep op classOf s (0 + total pre) n) g)
       (model cs (mergedOrders classOf O (0 + total pre - freeLast 0 pre) (freeLast 0 pre) n (freeHead post)) g)
-      (whole-rest L (releaseStep op classOf s (0 + total pre) n) g (mergedOrders classOf O (0 + total pre - freeLast 0 pre) (freeLast 0 pre) n (freeHead post)) cs (release-refines L classOf cls6 s O pre n post (h .calm) w))
+      (whole-rest L (releaseStep op classOf s (0 + total pre) n) g (mergedOrders classOf O (0 + total pre - freeLast 0 pre) (freeLast 0 pre) n (freeHead post)) cs
+      (release-refines L classOf cls6 s O pre n post (h .calm) w))
       (release-calm (pre ++ busy n ∷ post) (length pre) (h .calm))
       (L .rest-setRest (releaseStep op classOf s (0 + total pre) n) g (E .fit (op .count s) a g rm (λ x q. (us x q) .0)))
       (h .words) c
       (let hp = h .right .peak in
-      record { inUse = omega arith; peak = omega arith; high = h .right .high; heap = h .right .heap; eights = h .right .eights; ends = under-release (f .high) 0 (pre ++ busy n ∷ post) (length pre) (h .right .ends) }))
+      record {
+        inUse = omega arith;
+        peak = omega arith;
+        high = h .right .high;
+        heap = h .right .heap;
+        eights = h .right .eights;
+        ends = under-release (f .high) 0
+            (pre ++ busy n ∷ post) (length pre) (h .right .ends);
+      }))
     where
       other : (x : ℕ) → Mem x ks → 6 ≤ x → byteOf x ≢ total pre
       other x q x6 v = d .0 (subst (λ (t : ℕ). Mem t ks) (let r : x ≡ k = omega arith in r) q)
@@ -389,7 +406,8 @@ module _ {S : Type 0} {op : Ops S Figures} {most places : ℕ} (E : Edition op m
     settles (k ∷ ks) us d q = go (leb (length (k ∷ ks)) places) refl
       where
         go : (t : Bool) → leb (length (k ∷ ks)) places ≡ t
-            → Sh (pick t (op .setRest s (withCached (op .rest s) (k ∷ ks))) (op .setRest (releaseChunk op s (k - 6) (lengthAt op s k)) (released (op .rest s) ks (lengthAt op s k))))
+            → Sh (pick t (op .setRest s (withCached (op .rest s) (k ∷ ks)))
+            (op .setRest (releaseChunk op s (k - 6) (lengthAt op s k)) (released (op .rest s) ks (lengthAt op s k))))
             (pick t (model (m .cs) (m .orders) (withCached (m .figs) (k ∷ ks))) (gaveM m ks (byteOf k) (sizeM m k)))
         go true e = recached s m h (k ∷ ks) (record { used = us; once = d; room = leb-true (length (k ∷ ks)) places e })
         go false e =
@@ -397,9 +415,11 @@ module _ {S : Type 0} {op : Ops S Figures} {most places : ℕ} (E : Edition op m
             let n = usedAt (m .cs) (byteOf k) in
             let u = used-at (m .cs) (byteOf k) (let v = p .1 in omega arith) in
             subst (λ cs. Sh s (model cs (m .orders) (m .figs)) → ((x : ℕ) → Mem x (k ∷ ks) → (6 ≤ x) × (0 < usedAt cs (byteOf x)))
-            → Sh (op .setRest (releaseChunk op s (k - 6) (lengthAt op s k)) (released (op .rest s) ks (lengthAt op s k))) (gaveM (model cs (m .orders) (m .figs)) ks (byteOf k) (lenAt cs (byteOf k))))
+            → Sh (op .setRest (releaseChunk op s (k - 6) (lengthAt op s k)) (released (op .rest s) ks (lengthAt op s k)))
+            (gaveM (model cs (m .orders) (m .figs)) ks (byteOf k) (lenAt cs (byteOf k))))
             (sym (u .is))
-            (λ g v. gave s (u .pre) n (u .post) (m .orders) (m .figs) k ks (u .byte) (p .0) ((v k (List·Memᴰ·head refl)) .1) (λ x i. v x (List·Memᴰ·tail i)) d (omega arith) g)
+            (λ g v. gave s (u .pre) n (u .post) (m .orders) (m .figs) k ks (u .byte) (p .0) ((v k (List·Memᴰ·head refl)) .1) (λ x i. v x (List·Memᴰ·tail i)) d
+            (omega arith) g)
             h us
 
     -- HANDING OUT from a list
@@ -414,7 +434,8 @@ module _ {S : Type 0} {op : Ops S Figures} {most places : ℕ} (E : Edition op m
           value = refl;
           compared = refl;
           after = subst (λ cs. Sh s (model cs (m .orders) (m .figs))
-              → Sh (op .setRest (takeChunk op s (x - 6) (lengthAt op s x) z) (counted (op .rest s) (portion (lengthAt op s x) z) (byteOf x + portion (lengthAt op s x) z)))
+              → Sh (op .setRest (takeChunk op s (x - 6) (lengthAt op s x) z)
+              (counted (op .rest s) (portion (lengthAt op s x) z) (byteOf x + portion (lengthAt op s x) z)))
               (tookM (model cs (m .orders) (m .figs)) x (lenAt cs (byteOf x)) z))
               (sym (g .is)) (λ q. took s (g .pre) (r .0) (g .post) (m .orders) (m .figs) x z z16 z8 (g .named) q) h;
         }
@@ -429,7 +450,9 @@ module _ {S : Type 0} {op : Ops S Figures} {most places : ℕ} (E : Edition op m
           number = refl;
           value = refl;
           compared = refl;
-          after = recached s m h ks (let q = p .4 in let v = h .cache .room in record { used = λ y i. h .cache .used y (p .2 y i); once = p .3 (h .cache .once); room = omega arith });
+          after =
+              recached s m h ks (let q = p .4 in let v = h .cache .room in
+              record { used = λ y i. h .cache .used y (p .2 y i); once = p .3 (h .cache .once); room = omega arith });
         }
         go none p =
             rw (search-same s m h sound z) (lists-follow z z16 z8 (searchM m z) (find-fits (sizeM m) z (searched m z) 0))
@@ -487,7 +510,8 @@ module _ {S : Type 0} {op : Ops S Figures} {most places : ℕ} (E : Edition op m
                   (let y = length-append (m .figs .cached) (nameOf (p - 4) ∷ []) in let z = h .cache .room in omega arith);
             }
           where
-            both : (x : ℕ) → Mem x (m .figs .cached) ⊎ Mem x (nameOf (p - 4) ∷ []) → byteOf (nameOf (p - 4)) ≡ p - 4 → 0 < usedAt (m .cs) (p - 4) → (6 ≤ x) × (0 < usedAt (m .cs) (byteOf x))
+            both : (x : ℕ) → Mem x (m .figs .cached) ⊎ Mem x (nameOf (p - 4) ∷ []) → byteOf (nameOf (p - 4)) ≡ p - 4 → 0 < usedAt (m .cs) (p - 4)
+                → (6 ≤ x) × (0 < usedAt (m .cs) (byteOf x))
             both x (inl i) a b = h .cache .used x i
             both x (inr i) a b =
                 let q = List·Memᴰ·eq-of-singleton i in

@@ -91,7 +91,8 @@ six-true s p n = rw (eq-eqb (length (s .prevs)) 6 p) (eq-eqb (length (s .nexts))
 pub six-is : {R : Type 0} (s : Heap R) → pick (eqb (length (s .prevs)) 6) (eqb (length (s .nexts)) 6) false ≡ true → (length (s .prevs) ≡ 6) × (length (s .nexts) ≡ 6)
 six-is s h = go (eqb (length (s .prevs)) 6) refl (eqb (length (s .nexts)) 6) refl h
   where
-    go : (a : Bool) → eqb (length (s .prevs)) 6 ≡ a → (b : Bool) → eqb (length (s .nexts)) 6 ≡ b → pick a b false ≡ true → (length (s .prevs) ≡ 6) × (length (s .nexts) ≡ 6)
+    go : (a : Bool) → eqb (length (s .prevs)) 6 ≡ a → (b : Bool) → eqb (length (s .nexts)) 6 ≡ b → pick a b false ≡ true
+        → (length (s .prevs) ≡ 6) × (length (s .nexts) ≡ 6)
     go true p true q e = (eqb-true (length (s .prevs)) 6 p, eqb-true (length (s .nexts)) 6 q)
     go true p false q e = absurd (let z : _≡_ {A = ℕ} 0 1 = cc in omega arith)
     go false p b q e = absurd (let z : _≡_ {A = ℕ} 0 1 = cc in omega arith)

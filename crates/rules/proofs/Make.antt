@@ -30,7 +30,8 @@ module _ {S R : Type 0} {op : Ops S R} (L : LinkStore op) (b16 : 16 ≤ L .bytes
   unfolding markFree
   tagged = record {
     rings = rings-write L s2 (λ k. []) (L .bytes / 4) 2 (off (L .bytes / 4))
-        (rings-write L s1 (λ k. []) (0 + L .bytes / 4 - 1) (L .bytes) (off (0 + L .bytes / 4 - 1)) (rings-write L s (λ k. []) 0 (headerOf (L .bytes) false true) (off 0) r));
+        (rings-write L s1 (λ k. []) (0 + L .bytes / 4 - 1) (L .bytes) (off (0 + L .bytes / 4 - 1))
+        (rings-write L s (λ k. []) 0 (headerOf (L .bytes) false true) (off 0) r));
     exact = none;
     sub = λ t m. absurd (List·Memᴰ·not-nil m);
     legal = (b16, b8, tt);
@@ -61,5 +62,6 @@ module _ {S R : Type 0} {op : Ops S R} (L : LinkStore op) (b16 : 16 ≤ L .bytes
   pub made-whole : Whole L classOf cls6 (oneChunk op s (L .bytes)) (push (λ k. []) (classOf (L .bytes)) 6) (free (L .bytes) ∷ [])
   unfolding oneChunk push frees
   made-whole =
-      part-link L classOf cls6 (op .setWord (markFree op s 0 (L .bytes)) (L .bytes / 4) 2) (λ k. []) (free (L .bytes) ∷ []) [] [] 6 (L .bytes) (λ t m e. List·Memᴰ·not-nil m)
+      part-link L classOf cls6 (op .setWord (markFree op s 0 (L .bytes)) (L .bytes / 4) 2) (λ k. []) (free (L .bytes) ∷ []) [] [] 6 (L .bytes)
+      (λ t m e. List·Memᴰ·not-nil m)
       (List·Memᴰ·head refl) (L .fit 0 refl b16) (omega arith) tagged

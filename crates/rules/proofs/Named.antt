@@ -56,7 +56,8 @@ module _ {S R : Type 0} {op : Ops S R} (L : LinkStore op) (cls : ℕ → ℕ) (c
       let l = legal-back pre (free n ∷ post) (w .legal) in
       let t = tags-back (op .word s) 0 true pre (free n ∷ post) (w .tags) in
       let q : x - 6 ≡ (0 + total pre) / 4 = omega arith in
-      ap (λ (i : ℕ). op .word s i / 4 * 4) q ∙ header-len (op .word s ((0 + total pre) / 4)) n 0 (bit (lastUsed true pre)) (l .1) (omega arith) (bit-le (lastUsed true pre)) (t .0)
+      ap (λ (i : ℕ). op .word s i / 4 * 4) q ∙ header-len (op .word s ((0 + total pre) / 4)) n 0 (bit (lastUsed true pre)) (l .1) (omega arith)
+      (bit-le (lastUsed true pre)) (t .0)
 
   module _ (cs : List Chunk) (w : Whole L cls cls6 s O cs) where
     pub size-same : (j : ℕ) → j < 6 → (x : ℕ) → Mem x (O j) → lengthAt op s x ≡ lenAt cs (byteOf x)
@@ -66,7 +67,8 @@ module _ {S R : Type 0} {op : Ops S R} (L : LinkStore op) (cls : ℕ → ℕ) (c
         let w′ = subst (λ ds. Whole L cls cls6 s O ds) (f .is) w in
         let lp = legal-front (f .pre) (free (r .0) ∷ f .post) (w′ .legal) in
         size-at (f .pre) (r .0) (f .post) x (f .named) w′
-        ∙ sym (ap (λ ds. lenAt ds (byteOf x)) (f .is) ∙ len-at (f .pre) (free (r .0)) (f .post) (byteOf x) lp (byte-at (f .pre) x lp (f .named) ∙ zero-add (total (f .pre))))
+        ∙ sym (ap (λ ds. lenAt ds (byteOf x)) (f .is) ∙ len-at (f .pre) (free (r .0)) (f .post) (byteOf x) lp
+        (byte-at (f .pre) x lp (f .named) ∙ zero-add (total (f .pre))))
 
     -- how many chunks a list can hold, and all lists together
     pub order-few : (j : ℕ) → j < 6 → length (O j) ≤ length cs

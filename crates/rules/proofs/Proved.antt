@@ -20,7 +20,9 @@ use Rattle.rules.proofs.Widths.{WidthLaws, narrow-laws, wide-laws}
 use Rattle.rules.proofs.Store.{Edition}
 use Rattle.rules.proofs.Decide.{sound-true, true-sound, layout-unique, orders-unique, figures-unique}
 use Rattle.rules.proofs.Editions.{edition, narrow-fits, wide-fits, made-shows, accepted-true, true-accepted}
-use Rattle.rules.proofs.Demands.{hand-numbers, back-numbers, hand-refused, back-refused, hand-returned, back-returned, hand-zero, hand-large, hand-sound, back-sound, hand-fine, back-fine, hand-damaged, back-damaged, noFit-exact, notLive-exact, position, compared-small, compared-small-refused, compared-large-refused}
+use Rattle.rules.proofs.Demands.{hand-numbers, back-numbers, hand-refused, back-refused, hand-returned, back-returned, hand-zero, hand-large, hand-sound}
+use Rattle.rules.proofs.Demands.{back-sound, hand-fine, back-fine, hand-damaged, back-damaged, noFit-exact, notLive-exact, position, compared-small}
+use Rattle.rules.proofs.Demands.{compared-small-refused, compared-large-refused}
 use Rattle.rules.proofs.Runs.{runs-agree, run-follows, payload-kept}
 
 pub demands : {S : Type 0} {op : Ops S Figures} {most places : ℕ} → Edition op most places → Demands op most places

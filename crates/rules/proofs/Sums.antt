@@ -15,7 +15,8 @@ unfolding join
 join-used-sum c [] = refl
 join-used-sum c (d ∷ cs) = go (c .used) (d .used) refl refl
   where
-    go : (u v : Bool) → c .used ≡ u → d .used ≡ v → usedSum (pick (either u v) (c ∷ d ∷ cs) (free (c .len + d .len) ∷ cs)) ≡ pick (c .used) (c .len) 0 + (pick (d .used) (d .len) 0 + usedSum cs)
+    go : (u v : Bool) → c .used ≡ u → d .used ≡ v
+        → usedSum (pick (either u v) (c ∷ d ∷ cs) (free (c .len + d .len) ∷ cs)) ≡ pick (c .used) (c .len) 0 + (pick (d .used) (d .len) 0 + usedSum cs)
     go true v p q = refl
     go false true p q = refl
     go false false p q = rw (p, q) (omega arith)
@@ -40,7 +41,8 @@ unfolding taken cut
 taken-sum [] i z h u = absurd (not-suc-le-zero h)
 taken-sum (c ∷ cs) zero z h u = go (leb (z + 12) (c .len)) (ap (λ (b : Bool). pick b (c .len) 0) u)
   where
-    go : (t : Bool) → pick (c .used) (c .len) 0 ≡ 0 → usedSum (pick t (busy z ∷ free (c .len - z) ∷ cs) (busy (c .len) ∷ cs)) ≡ pick (c .used) (c .len) 0 + usedSum cs + pick t z (c .len)
+    go : (t : Bool) → pick (c .used) (c .len) 0 ≡ 0
+        → usedSum (pick t (busy z ∷ free (c .len - z) ∷ cs) (busy (c .len) ∷ cs)) ≡ pick (c .used) (c .len) 0 + usedSum cs + pick t z (c .len)
     go true q = omega arith
     go false q = omega arith
 taken-sum (c ∷ cs) (suc i) z h u = let q = taken-sum cs i z (le-of-suc-le-suc h) u in omega arith

@@ -69,7 +69,9 @@ module _ {W : Width} (E : WidthLaws W) (ws : List ℕ) (w v : ℕ) where
   unfolding setLinkAt
   link-beside a at h = go (ℕ-discrete (W .place (flip a)) (W .place a))
     where
-      go : Dec (W .place (flip a) ≡ W .place a) → W .get (flip a) (getD (set ws (w + W .place a) (W .put a (getD ws (w + W .place a) 0) v)) (w + W .place (flip a)) 0) ≡ W .get (flip a) (getD ws (w + W .place (flip a)) 0)
+      go : Dec (W .place (flip a) ≡ W .place a)
+          → W .get (flip a) (getD (set ws (w + W .place a) (W .put a (getD ws (w + W .place a) 0) v)) (w + W .place (flip a)) 0) ≡ W .get (flip a)
+          (getD ws (w + W .place (flip a)) 0)
       go (yes e) =
           let n = E .near a in
           rw e (ap (W .get (flip a)) (getD-set-same ws (w + W .place a) _ 0 (omega arith)) ∙ E .beside a e _ v h)

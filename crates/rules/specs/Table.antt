@@ -84,5 +84,7 @@ table =
 
 -- THE ONE CLAIM
 pub claim : all base table ≡ true
-unfolding call handOut takeBack live choose listed make serve fromCache fromList firstFit settled link unlink setLeft clearLeft markFree markUsed oneChunk returnExcess takeChunk leftFree rightFree merge merged releaseChunk setLinkAt classOf findWalk searchAll usedWalk usedAt soundᵇ showsᵇ candidate legalᵇ calmᵇ tagsᵇ segᵇ belowᵇ everyᵇ slotᵇ exactᵇ distinctᵇ underᵇ cacheᵇ figuresᵇ tile walk frees
+unfolding call handOut takeBack live choose listed make serve fromCache fromList firstFit settled link unlink setLeft clearLeft markFree markUsed oneChunk
+    returnExcess takeChunk leftFree rightFree merge merged releaseChunk setLinkAt classOf findWalk searchAll usedWalk usedAt soundᵇ showsᵇ candidate
+    legalᵇ calmᵇ tagsᵇ segᵇ belowᵇ everyᵇ slotᵇ exactᵇ distinctᵇ underᵇ cacheᵇ figuresᵇ tile walk frees
 claim = refl
