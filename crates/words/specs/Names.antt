@@ -1,5 +1,5 @@
 -- NAMES OF A HEADER (document 01, "Words, tags and links"): a link, a byte offset and a payload's byte offset all name the header at a word.
--- What holds of every kind of name is proved once, in proofs/Names.antt.
+-- What holds of every kind of name is proved once, in proofs/Laws/Names.antt.
 use mathlib.Core.Path.{_≡_}
 use Prim.Native.Nat.{ℕ, _+_, _-_, _*_, _/_, _%_}
 use native.Mathlib.Omega.{arith}

@@ -15,36 +15,43 @@ at ws i = getD ws i 0
 abbrev pub headerOf : ℕ → Bool → Bool → ℕ
 headerOf n used left = n / 4 * 4 + 2 * bit used + bit left
 
--- what a header says: the length, whether the chunk is free, whether its left neighbour is
+-- what a header says: the length
 abbrev pub lengthOf : ℕ → ℕ
 lengthOf h = h / 4 * 4
 
+-- whether the chunk is free
 abbrev pub freeᵇ : ℕ → Bool
 freeᵇ h = eqb (h / 2 % 2) 0
 
+-- whether its left neighbour is free
 abbrev pub leftFreeᵇ : ℕ → Bool
 leftFreeᵇ h = eqb (h % 2) 0
 
--- a header with one field changed
+-- the header with its length changed to n
 abbrev pub withLength : ℕ → ℕ → ℕ
 withLength h n = n / 4 * 4 + h % 4
 
+-- the header marked used
 abbrev pub asUsed : ℕ → ℕ
 asUsed h = h / 4 * 4 + 2 + h % 2
 
+-- the header marked free
 abbrev pub asFree : ℕ → ℕ
 asFree h = h / 4 * 4 + h % 2
 
+-- the header with its left neighbour marked used
 abbrev pub leftUsed : ℕ → ℕ
 leftUsed h = h / 2 * 2 + 1
 
+-- the header with its left neighbour marked free
 abbrev pub leftFreed : ℕ → ℕ
 leftFreed h = h / 2 * 2
 
--- places around a chunk of n bytes whose header is word i: the right neighbour's header, its own footer
+-- of a chunk of n bytes whose header is word i, the right neighbour's header
 abbrev pub rightOf : ℕ → ℕ → ℕ
 rightOf i n = i + n / 4
 
+-- of such a chunk, its footer
 abbrev pub footerOf : ℕ → ℕ → ℕ
 footerOf i n = i + n / 4 - 1
 

@@ -7,10 +7,19 @@
 //     tags     header, flags and footer (the layout of a chunk is drawn there)
 //     links    prev and next, of a sentinel or of a chunk
 //     sizes    rounded size, class, threshold
-mod names;
-mod tags;
 mod links;
+mod names;
 mod sizes;
+mod tags;
+
+pub use links::hdr_to_next_hdr;
+pub use links::hdr_to_prev_hdr;
+pub use links::next_of;
+pub use links::prev_of;
+pub use links::set_chunk_next;
+pub use links::set_chunk_prev;
+pub use links::set_next_field;
+pub use links::set_prev_field;
 pub use names::ByteOffset;
 pub use names::Link;
 pub use names::WordIndex;
@@ -20,6 +29,12 @@ pub use names::hdr_to_payload;
 pub use names::link_to_hdr;
 pub use names::offset_to_hdr;
 pub use names::payload_to_hdr;
+pub use sizes::chunk_size_to_list_index;
+pub use sizes::list_index_by_zeros;
+pub use sizes::monus;
+pub use sizes::rounded_size;
+pub use sizes::start_index;
+pub use sizes::threshold;
 pub use tags::get_hdr_chunk_size;
 pub use tags::hdr_to_ftr;
 pub use tags::hdr_to_left_ftr;
@@ -37,17 +52,3 @@ pub use tags::set_left_free;
 pub use tags::set_self_allocated;
 pub use tags::set_this_free;
 pub use tags::word;
-pub use links::hdr_to_next_hdr;
-pub use links::hdr_to_prev_hdr;
-pub use links::next_of;
-pub use links::prev_of;
-pub use links::set_chunk_next;
-pub use links::set_chunk_prev;
-pub use links::set_next_field;
-pub use links::set_prev_field;
-pub use sizes::chunk_size_to_list_index;
-pub use sizes::list_index_by_zeros;
-pub use sizes::monus;
-pub use sizes::rounded_size;
-pub use sizes::start_index;
-pub use sizes::threshold;

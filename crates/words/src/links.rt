@@ -60,7 +60,11 @@ pub fn prev_of(sentinels: [Link; 6], heap: &[u32], l: Link) -> Link
     ensures { λ r. ⌜ r .0 ≡ nodeLink narrow links.prev (numbers sentinels) (now (heap .entry)) (l .0) ⌝ }
 {
     let k = l.0 as usize;
-    if k < 6 { sentinels[k] } else { hdr_to_prev_hdr(heap, l) }
+    if k < 6 {
+        sentinels[k]
+    } else {
+        hdr_to_prev_hdr(heap, l)
+    }
 }
 
 // The node after a node, sentinel or chunk.
@@ -68,7 +72,11 @@ pub fn next_of(sentinels: [Link; 6], heap: &[u32], l: Link) -> Link
     ensures { λ r. ⌜ r .0 ≡ nodeLink narrow links.next (numbers sentinels) (now (heap .entry)) (l .0) ⌝ }
 {
     let k = l.0 as usize;
-    if k < 6 { sentinels[k] } else { hdr_to_next_hdr(heap, l) }
+    if k < 6 {
+        sentinels[k]
+    } else {
+        hdr_to_next_hdr(heap, l)
+    }
 }
 
 // The words' half of storing a node's prev link: nothing where the node is a sentinel.

@@ -1,7 +1,7 @@
 // Names of a header: a link, a word index and a byte offset are three types that cannot be mixed.
 //
 // A link below 6 names a sentinel; the header at word w has link w + 6, byte offset 4 w and payload offset 4 w + 4.
-// Contracts cite specs/Names.antt; that no conversion loses anything is proved once for all of them in proofs/Names.antt.
+// Contracts cite specs/Names.antt; that no conversion loses anything is proved once for all of them in proofs/Laws/Names.antt.
 ghost use mathlib.Core.Path.{_≡_};
 ghost use Rattle.words.specs.Names.{links, offsets, payloads, heldName};
 
@@ -20,7 +20,11 @@ pub fn link_to_hdr(l: Link) -> WordIndex
     ensures { λ r. ⌜ r .0 ≡ links .word (l .0) ⌝ }
 {
     let n = l.0 as usize;
-    if n < 6 { WordIndex(0) } else { WordIndex(n - 6) }
+    if n < 6 {
+        WordIndex(0)
+    } else {
+        WordIndex(n - 6)
+    }
 }
 
 // heap.rs: ptr_to_link. The link of a header from word 65,530 on does not fit.
@@ -56,5 +60,9 @@ pub fn payload_to_hdr(payload: ByteOffset) -> WordIndex
     ensures { λ r. ⌜ r .0 ≡ payloads .word (payload .0) ⌝ }
 {
     let p = payload.0;
-    if p < 4 { WordIndex(0) } else { WordIndex(((p - 4) / 4) as usize) }
+    if p < 4 {
+        WordIndex(0)
+    } else {
+        WordIndex(((p - 4) / 4) as usize)
+    }
 }

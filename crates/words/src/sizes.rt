@@ -17,8 +17,11 @@ pub fn rounded_size(size: u32) -> u64
     ensures { λ r. ⌜ r ≡ roundedOf size ⌝ }
 {
     let with_hdr = size as u64 + 4;
-    let least = if with_hdr < 16 { 16 } else { with_hdr };
-    (least + 7) / 8 * 8
+    if with_hdr < 16 {
+        16
+    } else {
+        (with_hdr + 7) / 8 * 8
+    }
 }
 
 // The class of a chunk length: the number of its free list. Five doublings from 16; the last class is open.

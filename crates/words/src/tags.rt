@@ -50,9 +50,11 @@ pub fn set_hdr_chunk_size(heap: &mut [u32], hdr: WordIndex, size: u32)
 pub fn set_hdr(heap: &mut [u32], hdr: WordIndex, size: u32, used: bool, left_used: bool)
     ensures { λ r. ⌜ now (heap .exit) ≡ set (now (heap .entry)) (hdr .0) (headerOf size used «left_used») ⌝ }
 {
-    let u = if used { 2 } else { 0 };
-    let l = if left_used { 1 } else { 0 };
-    put(heap, hdr, size / 4 * 4 + u + l);
+    put(
+        heap,
+        hdr,
+        size / 4 * 4 + 2 * (used as u32) + left_used as u32,
+    );
 }
 
 // Given the header, the place of the footer of a chunk of this length.

@@ -1,0 +1,132 @@
+-- The cached chunk: the code's search finds a used chunk exactly where the rules' layout has one.
+use Prim.Native.Nat.{ℕ, _+_, _-_, _*_, _/_, _%_, _≤_, _<_}
+use mathlib.Core.Path.{_≡_, refl, sym, ap, _∙_, subst}
+use mathlib.Core.Logic.{⊎-elim}
+use mathlib.Core.List.{List, [], _∷_, List·Memᴰ·head, List·Memᴰ·not-nil, List·Memᴰ·eq-of-singleton}
+use mathlib.Core.Bool.{Bool, true, false, false≢true}
+use native.Mathlib.Omega.{arith}
+use lib.ListN.{length}
+use lib.Dec.{eqb, leb, ltb}
+use borrow.Author.Tests.{lt-ltb, le-ltb, le-leb, eq-eqb, ne-eqb, eqb-true, eqb-false, leb-true, ltb-true, ltb-false}
+use Rattle.words.specs.Choice as choice
+use Rattle.rules.specs.Place.{usedAt}
+use Rattle.rules.specs.Sound.{CacheRight}
+use Rattle.audit.specs.declared.tiling.Seen.{Seen}
+use Rattle.audit.specs.declared.tiling.Seen.the-variants.{Bad, Free, Used}
+use Rattle.audit.specs.Shown.{cachedOf}
+use Rattle.audit.specs.Layout.{Chunk, free, used, pick, Tiles}
+use Rattle.audit.specs.Walk.{chunkOf, chunkIn, usedSeen, cacheRightᵇ}
+use Rattle.audit.proofs.tiling.Headers.{pick-some, pick-is, used-not-bad, free-not-used}
+use Rattle.audit.proofs.tiling.Finds.{chunk-in}
+use Rattle.audit.proofs.Tilings.{all}
+
+-- the test of a link above 5, by what the code saw
+pub cache-at : (ws : List ℕ) (l w : ℕ) (y : Seen) → (l ≡ 0 → ⊥) → 6 ≤ l → w ≡ l - 6 → y ≡ chunkOf ws w → cacheRightᵇ ws l ≡ usedSeen y
+unfolding cacheRightᵇ pick
+cache-at ws l w y n i e f = simp (ne-eqb l 0 n, le-ltb l 6 i) (ap usedSeen (ap (chunkOf ws) (sym e) ∙ sym f))
+
+used-seen-is : (y : Seen) → usedSeen y ≡ true → (n : ℕ) × (y ≡ Used n)
+unfolding usedSeen
+used-seen-is Bad e = absurd (false≢true e)
+used-seen-is (Free n) e = absurd (false≢true e)
+used-seen-is (Used n) e = (n, refl)
+
+-- A USED CHUNK, by its word and by its byte
+past : (at w m : ℕ) → at + m / 4 ≤ w → 16 ≤ m → m % 8 ≡ 0 → ((w - at) * 4 ≡ 0 → ⊥) × (m ≤ (w - at) * 4) × ((w - (at + m / 4)) * 4 ≡ (w - at) * 4 - m)
+past at w m i j k = (omega arith, omega arith, omega arith)
+
+in-used : (cs : List Chunk) (ws : List ℕ) (at : ℕ) (l : Bool) → Tiles ws at l cs → (w n : ℕ) → chunkIn cs at w ≡ Used n → (at ≤ w) × (0 < usedAt (all cs) ((w - at) * 4))
+unfolding chunkIn usedAt
+in-used [] ws at l t w n e = absurd (used-not-bad n e)
+in-used (free m ∷ cs) ws at l t w n e =
+    ⊎-elim
+    (λ u.
+    let r = in-used cs ws (at + m / 4) false (t .1) w n (u .1) in
+    let p = past at w m (r .0) (t .0 .room .least) (t .0 .room .eights) in
+    (omega (arith, r .0), rw (ne-eqb ((w - at) * 4) 0 (p .0), le-leb m ((w - at) * 4) (p .1)) (subst (λ (b : ℕ). 0 < usedAt (all cs) b) (p .2) (r .1))))
+    (λ v. absurd (free-not-used _ n (pick-some _ _ _ _ (v .1) (used-not-bad n) .1)))
+    (pick-is _ _ _ _ e)
+in-used (used m ∷ cs) ws at l t w n e =
+    ⊎-elim
+    (λ u.
+    let r = in-used cs ws (at + m / 4) true (t .1) w n (u .1) in
+    let p = past at w m (r .0) (t .0 .room .least) (t .0 .room .eights) in
+    (omega (arith, r .0), rw (ne-eqb ((w - at) * 4) 0 (p .0), le-leb m ((w - at) * 4) (p .1)) (subst (λ (b : ℕ). 0 < usedAt (all cs) b) (p .2) (r .1))))
+    (λ v.
+    let a : at ≡ w = eqb-true _ _ (pick-some _ _ _ _ (v .1) (used-not-bad n) .0) in
+    let z : (w - at) * 4 ≡ 0 = omega arith in
+    (omega arith, rw (eq-eqb ((w - at) * 4) 0 z) (omega (arith, t .0 .room .least))))
+    (pick-is _ _ _ _ e)
+
+used-in : (cs : List Chunk) (ws : List ℕ) (at : ℕ) (l : Bool) → Tiles ws at l cs → (w : ℕ) → at ≤ w → 0 < usedAt (all cs) ((w - at) * 4) → (n : ℕ) × (chunkIn cs at w ≡ Used n)
+unfolding chunkIn usedAt pick
+used-in [] ws at l t w i h = absurd (omega arith)
+used-in (free m ∷ cs) ws at l t w i h = go (λ p q. used-in cs ws (at + m / 4) false (t .1) w p q) (eqb ((w - at) * 4) 0) refl (leb m ((w - at) * 4)) refl h
+  where
+    room : (16 ≤ m) × (m % 8 ≡ 0)
+    room = (t .0 .room .least, t .0 .room .eights)
+
+    go : (at + m / 4 ≤ w → 0 < usedAt (all cs) ((w - (at + m / 4)) * 4) → (n : ℕ) × (chunkIn cs (at + m / 4) w ≡ Used n)) → (s : Bool) → eqb ((w - at) * 4) 0 ≡ s → (v : Bool) → leb m ((w - at) * 4) ≡ v
+        → 0 < choice.pick s 0 (choice.pick v (usedAt (all cs) ((w - at) * 4 - m)) 0) → (n : ℕ) × (pick (ltb at w) (chunkIn cs (at + m / 4) w) (pick (eqb at w) (Free m) Bad) ≡ Used n)
+    go f true e v g q = absurd (omega arith)
+    go f false e false g q = absurd (omega arith)
+    go f false e true g q =
+        let o = room in
+        let b = leb-true m ((w - at) * 4) g in
+        let p = past at w m (omega arith) (o .0) (o .1) in
+        let r = f (omega arith) (subst (λ (b : ℕ). 0 < usedAt (all cs) b) (sym (p .2)) q) in
+        (r .0, simp (lt-ltb at w (omega arith)) (r .1))
+used-in (used m ∷ cs) ws at l t w i h = go (λ p q. used-in cs ws (at + m / 4) true (t .1) w p q) (eqb ((w - at) * 4) 0) refl (leb m ((w - at) * 4)) refl h
+  where
+    room : (16 ≤ m) × (m % 8 ≡ 0)
+    room = (t .0 .room .least, t .0 .room .eights)
+
+    go : (at + m / 4 ≤ w → 0 < usedAt (all cs) ((w - (at + m / 4)) * 4) → (n : ℕ) × (chunkIn cs (at + m / 4) w ≡ Used n)) → (s : Bool) → eqb ((w - at) * 4) 0 ≡ s → (v : Bool) → leb m ((w - at) * 4) ≡ v
+        → 0 < choice.pick s m (choice.pick v (usedAt (all cs) ((w - at) * 4 - m)) 0) → (n : ℕ) × (pick (ltb at w) (chunkIn cs (at + m / 4) w) (pick (eqb at w) (Used m) Bad) ≡ Used n)
+    go f true e v g q =
+        let z = eqb-true ((w - at) * 4) 0 e in
+        (m, simp (le-ltb at w (omega arith), eq-eqb at w (omega arith)))
+    go f false e false g q = absurd (omega arith)
+    go f false e true g q =
+        let o = room in
+        let b = leb-true m ((w - at) * 4) g in
+        let p = past at w m (omega arith) (o .0) (o .1) in
+        let r = f (omega arith) (subst (λ (b : ℕ). 0 < usedAt (all cs) b) (sym (p .2)) q) in
+        (r .0, simp (lt-ltb at w (omega arith)) (r .1))
+
+from-zero : (w : ℕ) → w - 0 ≡ w
+from-zero w = omega arith
+
+-- THE TEST IS THE RULES' CLAUSE
+module _ (ws : List ℕ) (cs : List Chunk) (t : Tiles ws 0 true cs) (l : ℕ) where
+  pub cache-sound : cacheRightᵇ ws l ≡ true → CacheRight 1 (cachedOf l) (all cs)
+  unfolding cacheRightᵇ pick
+  cache-sound h = go (eqb l 0) h
+    where
+      at : (s : Bool) → ltb l 6 ≡ s → pick s false (usedSeen (chunkOf ws (l - 6))) ≡ true → (6 ≤ l) × (0 < usedAt (all cs) ((l - 6) * 4))
+      at true i u = absurd (false≢true u)
+      at false i u =
+          let s = used-seen-is _ u in
+          let r = in-used cs ws 0 true t (l - 6) (s .0) (sym (chunk-in ws cs (l - 6) t) ∙ s .1) in
+          (ltb-false l 6 i, subst (λ (k : ℕ). 0 < usedAt (all cs) (k * 4)) (from-zero (l - 6)) (r .1))
+
+      go : (s : Bool) → pick s true (pick (ltb l 6) false (usedSeen (chunkOf ws (l - 6)))) ≡ true → CacheRight 1 (choice.pick s [] (l ∷ [])) (all cs)
+      go true u = record { used = λ x m. absurd (List·Memᴰ·not-nil m); once = tt; room = omega arith }
+      go false u =
+          let r = at (ltb l 6) refl u in
+          record {
+            used = λ x m. let e : x ≡ l = List·Memᴰ·eq-of-singleton m in (omega (arith, r .0), subst (λ (k : ℕ). 0 < usedAt (all cs) ((k - 6) * 4)) (sym e) (r .1));
+            once = (λ m. List·Memᴰ·not-nil m, tt);
+            room = omega arith;
+          }
+
+  pub cache-complete : CacheRight 1 (cachedOf l) (all cs) → cacheRightᵇ ws l ≡ true
+  unfolding cacheRightᵇ pick usedSeen
+  cache-complete h = go (eqb l 0) h
+    where
+      go : (s : Bool) → CacheRight 1 (choice.pick s [] (l ∷ [])) (all cs) → pick s true (pick (ltb l 6) false (usedSeen (chunkOf ws (l - 6)))) ≡ true
+      go true u = refl
+      go false u =
+          let r = u .used l (List·Memᴰ·head refl) in
+          let n = used-in cs ws 0 true t (l - 6) (omega arith) (subst (λ (k : ℕ). 0 < usedAt (all cs) (k * 4)) (sym (from-zero (l - 6))) (r .1)) in
+          simp (le-ltb l 6 (r .0), chunk-in ws cs (l - 6) t, n .1)

@@ -1,0 +1,64 @@
+-- The tests together: each holds of a sound pair, and where all hold it is sound.
+use Prim.Native.Nat.{ℕ, _+_, _<_}
+use mathlib.Core.Path.{_≡_, sym, ap, _∙_, subst, subst₂}
+use mathlib.Core.List.{List}
+use mathlib.Core.Bool.{true}
+use native.Mathlib.Omega.{arith}
+use lib.ListN.{length, getD}
+use Rattle.words.specs.declared.names.Link.{Link}
+use Rattle.audit.specs.declared.Figures.{Figures}
+use Rattle.audit.specs.declared.tiling.Tally.{Tally}
+use Rattle.audit.specs.declared.rings.Followed.the-variants.{Long}
+use Rattle.audit.specs.Layout.{Chunk, Tiles, usedSum, usedEnd}
+use Rattle.audit.specs.Walk.{Broken, Whole, tiledBy, tallied, cacheRightᵇ, FiguresFit}
+use Rattle.audit.specs.Rings.{count, nextOf, chained, listOf}
+use Rattle.audit.specs.Window.{Ringed, Listed}
+use Rattle.audit.proofs.tiling.Walks.{Found, broken-not-whole, tiled-sound, tiled-complete}
+use Rattle.audit.proofs.tiling.Tallies.{tally-whole, tally-many}
+use Rattle.audit.proofs.Sound.{SoundPair}
+use Rattle.audit.proofs.Listed.{ring-inside, list-right, right-ring, right-listed}
+use Rattle.audit.proofs.Cached.{cache-sound, cache-complete}
+
+module _ (prev next : List Link) (f : Figures) (ws : List ℕ) where
+  pub not-broken : tiledBy ws 0 ≡ Broken → SoundPair prev next f ws → ⊥
+  not-broken e z = broken-not-whole _ _ _ (sym e ∙ tiled-complete ws (z .layout) 0 (z .tiles))
+
+  pub cache-of : SoundPair prev next f ws → cacheRightᵇ ws (f .cached .0) ≡ true
+  cache-of z = cache-complete ws (z .layout) (z .tiles) (f .cached .0) (z .cached)
+
+  -- with the tally of a walk that ended at the guard
+  module _ (t : Tally) (a : (c : ℕ) → c < 6 → tiledBy ws c ≡ tallied t c) (e : t .whole ≡ true) where
+    found : Found ws 0 0 true 0 0 0 (t .sum) (t .top) (getD (t .frees) 0 0)
+    found = tiled-sound ws 0 _ _ _ (tally-whole ws t a e 0 (omega arith))
+
+    pub figures-of : SoundPair prev next f ws → FiguresFit f (length ws) (t .sum) (t .top)
+    figures-of z =
+        let q = sym (tally-whole ws t a e 0 (omega arith)) ∙ tiled-complete ws (z .layout) 0 (z .tiles) in
+        let x : usedSum (z .layout) ≡ t .sum = cc (q) in
+        let y : usedEnd 0 0 (z .layout) ≡ t .top = cc (q) in
+        subst₂ (λ (j k : ℕ). FiguresFit f (length ws) j k) x y (z .figures)
+
+    pub rings-of : SoundPair prev next f ws → (c : ℕ) → c < 6 → chained prev next ws c ≡ Long (getD (t .frees) c 0)
+    rings-of z c i =
+        right-ring ws (z .layout) (z .tiles) c prev next i (z .lists c i) ∙ ap Long (sym (tally-many ws t a e (z .layout) (z .tiles) c i))
+
+    pub listed-of : SoundPair prev next f ws → Listed next ws (t .frees)
+    listed-of z c i x k =
+        right-listed ws (z .layout) (z .tiles) c prev next i (z .lists c i) x
+        (subst (λ (n : ℕ). 0 < count x (listOf (nextOf next ws) n c)) (tally-many ws t a e (z .layout) (z .tiles) c i) k)
+
+    module _ (r : (c : ℕ) → c < 6 → chained prev next ws c ≡ Long (getD (t .frees) c 0)) where
+      pub ringed-of : Ringed next ws (t .frees)
+      ringed-of = record { layout = found .layout; tiles = found .tiles; inside = (λ c i x k. ring-inside prev next ws c (getD (t .frees) c 0) (r c i) x k) }
+
+      pub sound-of : FiguresFit f (length ws) (t .sum) (t .top) → cacheRightᵇ ws (f .cached .0) ≡ true → Listed next ws (t .frees) → SoundPair prev next f ws
+      sound-of g k l =
+          let cs = found .layout in
+          let x : t .sum ≡ usedSum cs = omega (arith, found .sumIs) in
+          record {
+            layout = cs;
+            tiles = found .tiles;
+            lists = (λ c i. list-right ws cs (found .tiles) c prev next i (getD (t .frees) c 0) (tally-many ws t a e cs (found .tiles) c i) (r c i) (l c i));
+            cached = cache-sound ws cs (found .tiles) (f .cached .0) k;
+            figures = subst₂ (λ (j h : ℕ). FiguresFit f (length ws) j h) x (found .topIs) g;
+          }

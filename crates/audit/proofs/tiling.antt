@@ -1,0 +1,5 @@
+pub mod Headers
+pub mod Walks
+pub mod Places
+pub mod Finds
+pub mod Tallies

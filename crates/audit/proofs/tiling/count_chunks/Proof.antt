@@ -1,0 +1,164 @@
+-- `audit::tiling::count_chunks` meets its contract. Invariant: for each class, what is left to walk with the sums so far is the whole walk.
+-- Measure: the words ahead.
+use Prim.Native.Nat.{_-_}
+use mathlib.Core.Path.{sym, _∙_}
+use native.Mathlib.Omega.{arith}
+use lib.ListN.{length}
+use borrow.Author.Needs.{needs}
+use Rattle.audit.specs.Layout.{pick}
+use Rattle.audit.specs.Walk.{tallied}
+use Rattle.audit.proofs.tiling.Tallies.{Tallying, tallying-starts, tells-broken, tally-room, tallying-bad, tallying-free, tallying-used, tallying-guard, tallying-no-guard}
+use Rattle.audit.proofs.tiling.Headers.{free-room, used-room}
+use Rattle.audit.proofs.tiling.Walks.{tiled-empty}
+use Rattle.audit.proofs.tiling.count_chunks.Statement.{statement}
+use Rattle.audit.proofs.tiling.count_chunks.Tie as tie
+
+abbrev Inv-loop : tie.InvT-loop
+Inv-loop heap at₀ left₀ sum₀ top₀ frees₀ at left sum top frees = Tallying heap at left sum top frees
+
+abbrev μ-loop : tie.MeasureT-loop
+μ-loop heap at₀ left₀ sum₀ top₀ frees₀ at left sum top frees = length heap - at
+
+no-tiling-requires : tie.Need-no-tiling-requires Inv-loop μ-loop
+no-tiling-requires c κs = search needs
+
+returns : tie.Need-returns Inv-loop μ-loop
+returns c = tells-broken _ _ (c .no-tiling .ensures) (λ k i. tiled-empty _ k (c .before .if1 .taken))
+
+loop-holds : tie.Need-loop-holds Inv-loop μ-loop
+loop-holds c = tallying-starts _ (omega arith)
+
+add-loop : tie.Need-add-loop Inv-loop μ-loop
+add-loop c = search needs
+
+seen-at-requires : tie.Need-seen-at-requires Inv-loop μ-loop
+seen-at-requires c κs = search needs
+
+enum-told : tie.Need-enum-told Inv-loop μ-loop
+enum-told c = search needs
+
+no-tiling-requires-2 : tie.Need-no-tiling-requires-2 Inv-loop μ-loop
+no-tiling-requires-2 c κs = search needs
+
+returns-2 : tie.Need-returns-2 Inv-loop μ-loop
+returns-2 c = tells-broken _ _ (c .no-tiling2 .ensures) (tallying-bad _ _ _ _ _ _ (c .before .before .before .before .before .loop .inv) (c .before .before .before .before .loop-test .taken) (sym (c .before .before .before .seen-at .ensures) ∙ c .before .enum-told .given .1))
+
+enum-known-seen : tie.Need-enum-known-seen Inv-loop μ-loop
+enum-known-seen c = search needs
+
+chunk-size-to-list-index-requires : tie.Need-chunk-size-to-list-index-requires Inv-loop μ-loop
+chunk-size-to-list-index-requires c κs = search needs
+
+cast-class : tie.Need-cast-class Inv-loop μ-loop
+cast-class c = search needs
+
+mul-frees : tie.Need-mul-frees Inv-loop μ-loop
+mul-frees c = omega (arith, tally-room _ _ _ _ _ _ (c .before .before .before .before .before .before .loop .inv) _ _ (c .chunk-size-to-list-index .ensures))
+
+array-read-frees : tie.Need-array-read-frees Inv-loop μ-loop
+array-read-frees c = omega (arith, tally-room _ _ _ _ _ _ (c .before .before .before .before .before .before .loop .inv) _ _ (c .chunk-size-to-list-index .ensures))
+
+add-frees : tie.Need-add-frees Inv-loop μ-loop
+add-frees c = omega (arith, tally-room _ _ _ _ _ _ (c .before .before .before .before .before .before .loop .inv) _ _ (c .chunk-size-to-list-index .ensures))
+
+mul-frees-2 : tie.Need-mul-frees-2 Inv-loop μ-loop
+mul-frees-2 c = omega (arith, tally-room _ _ _ _ _ _ (c .before .before .before .before .before .before .loop .inv) _ _ (c .chunk-size-to-list-index .ensures))
+
+array-write-frees : tie.Need-array-write-frees Inv-loop μ-loop
+array-write-frees c = omega (arith, tally-room _ _ _ _ _ _ (c .before .before .before .before .before .before .loop .inv) _ _ (c .chunk-size-to-list-index .ensures))
+
+cast-at : tie.Need-cast-at Inv-loop μ-loop
+cast-at c = search needs
+
+add-at : tie.Need-add-at Inv-loop μ-loop
+add-at c = omega (arith, free-room _ _ _ _ (sym (c .before .before .before .before .seen-at .ensures) ∙ c .before .before .seen .given .1))
+
+loop-less : tie.Need-loop-less Inv-loop μ-loop
+loop-less c = omega (arith, free-room _ _ _ _ (sym (c .before .before .before .before .seen-at .ensures) ∙ c .before .before .seen .given .1))
+
+loop-again : tie.Need-loop-again Inv-loop μ-loop
+loop-again c = tallying-free _ _ _ _ _ _ (c .before .before .before .before .before .before .loop .inv) (c .before .before .before .before .before .loop-test .taken) _ _ (sym (c .before .before .before .before .seen-at .ensures) ∙ c .before .before .seen .given .1) (c .chunk-size-to-list-index .ensures)
+
+enum-known-seen-2 : tie.Need-enum-known-seen-2 Inv-loop μ-loop
+enum-known-seen-2 c = search needs
+
+cast-at-2 : tie.Need-cast-at-2 Inv-loop μ-loop
+cast-at-2 c = search needs
+
+add-at-2 : tie.Need-add-at-2 Inv-loop μ-loop
+add-at-2 c = omega (arith, used-room _ _ _ _ (sym (c .before .before .before .seen-at .ensures) ∙ c .before .seen2 .given .1))
+
+cast-sum : tie.Need-cast-sum Inv-loop μ-loop
+cast-sum c = search needs
+
+add-sum : tie.Need-add-sum Inv-loop μ-loop
+add-sum c = omega (arith, used-room _ _ _ _ (sym (c .before .before .before .seen-at .ensures) ∙ c .before .seen2 .given .1))
+
+mul-top : tie.Need-mul-top Inv-loop μ-loop
+mul-top c = omega (arith, used-room _ _ _ _ (sym (c .before .before .before .seen-at .ensures) ∙ c .before .seen2 .given .1))
+
+loop-less-2 : tie.Need-loop-less-2 Inv-loop μ-loop
+loop-less-2 c = omega (arith, used-room _ _ _ _ (sym (c .before .before .before .seen-at .ensures) ∙ c .before .seen2 .given .1))
+
+loop-again-2 : tie.Need-loop-again-2 Inv-loop μ-loop
+loop-again-2 c = tallying-used _ _ _ _ _ _ (c .before .before .before .before .before .loop .inv) (c .before .before .before .before .loop-test .taken) _ (sym (c .before .before .before .seen-at .ensures) ∙ c .before .seen2 .given .1)
+
+mul-if2 : tie.Need-mul-if2 Inv-loop μ-loop
+mul-if2 c = search needs
+
+shared-slice-read-if2 : tie.Need-shared-slice-read-if2 Inv-loop μ-loop
+shared-slice-read-if2 c = search needs
+
+add-if2 : tie.Need-add-if2 Inv-loop μ-loop
+add-if2 c = search needs
+
+no-tiling-requires-3 : tie.Need-no-tiling-requires-3 Inv-loop μ-loop
+no-tiling-requires-3 c κs = search needs
+
+returns-3 : tie.Need-returns-3 Inv-loop μ-loop
+returns-3 c = tells-broken _ _ (c .no-tiling3 .ensures) (tallying-no-guard _ _ _ _ _ _ (c .before .before .before .before .loop .inv) (c .before .before .before .loop-test .left) (c .before .if2 .taken))
+
+returns-4 : tie.Need-returns-4 Inv-loop μ-loop
+unfolding tallied pick
+returns-4 c = tallying-guard _ _ _ _ _ _ (c .before .before .before .loop .inv) (c .before .before .loop-test .left) (c .if2 .left)
+
+pub count-chunks-spec : {M : Type 1} → statement M
+count-chunks-spec =
+    tie.close
+    (tie.spec
+    Inv-loop
+    μ-loop
+    no-tiling-requires
+    returns
+    loop-holds
+    add-loop
+    seen-at-requires
+    enum-told
+    no-tiling-requires-2
+    returns-2
+    enum-known-seen
+    chunk-size-to-list-index-requires
+    cast-class
+    mul-frees
+    array-read-frees
+    add-frees
+    mul-frees-2
+    array-write-frees
+    cast-at
+    add-at
+    loop-less
+    loop-again
+    enum-known-seen-2
+    cast-at-2
+    add-at-2
+    cast-sum
+    add-sum
+    mul-top
+    loop-less-2
+    loop-again-2
+    mul-if2
+    shared-slice-read-if2
+    add-if2
+    no-tiling-requires-3
+    returns-3
+    returns-4)

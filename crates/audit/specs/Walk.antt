@@ -1,0 +1,101 @@
+-- WALKS OF THE TILING, as the code takes them: no part of what a sound heap is.
+use Prim.Native.Nat.{ℕ, zero, suc, _+_, _-_, _*_, _/_, _%_, _≤_}
+use mathlib.Core.Path.{_≡_}
+use mathlib.Core.List.{List, [], _∷_}
+use mathlib.Core.Bool.{Bool, true, false, not}
+use lib.ListN.{length, getD}
+use lib.Dec.{ltb, leb, eqb}
+use Rattle.words.specs.Choice.{bit}
+use Rattle.words.specs.Sizes.{classOf}
+use Rattle.audit.specs.declared.Figures.{Figures}
+use Rattle.audit.specs.declared.tiling.Seen.{Seen}
+use Rattle.audit.specs.declared.tiling.Seen.the-variants.{Bad, Free, Used}
+use Rattle.audit.specs.declared.tiling.Tally.{Tally}
+use Rattle.audit.specs.Layout.{pick, Chunk, free, used}
+
+-- the length in a header h whose third bit is clear
+abbrev pub bytes : ℕ → ℕ
+bytes h = h / 8 * 8
+
+-- what stands at word `at`, where `left` is 1 if what is left of it is used
+unfoldable pub seenAt : List ℕ → ℕ → ℕ → Seen
+seenAt ws at left =
+    pick (ltb at (length ws))
+    (pick (ltb (getD ws at 0 % 8) 4)
+    (pick (leb 16 (getD ws at 0))
+    (pick (eqb (getD ws at 0 % 2) left)
+    (pick (ltb (bytes (getD ws at 0) / 4) (length ws - at))
+    (pick (leb 2 (getD ws at 0 % 4))
+    (Used (bytes (getD ws at 0)))
+    (pick (not (eqb left 0))
+    (pick (eqb (getD ws (at + bytes (getD ws at 0) / 4 - 1) 0) (bytes (getD ws at 0)))
+    (Free (bytes (getD ws at 0))) Bad) Bad)) Bad) Bad) Bad) Bad) Bad
+
+-- THE WHOLE WALK: broken, or the sum of used lengths, the end of the last used chunk, and how many free chunks are of a class
+pub data Tiled : Type 0 where
+  Broken : Tiled
+  Whole : ℕ → ℕ → ℕ → Tiled
+
+-- what a turn does with what it saw
+unfoldable pub turn : ℕ → (ℕ → ℕ → ℕ → ℕ → ℕ → Tiled) → ℕ → ℕ → ℕ → ℕ → Seen → Tiled
+turn c go at sum top fr Bad = Broken
+turn c go at sum top fr (Free n) = go (at + n / 4) 0 sum top (fr + bit (eqb (classOf n) c))
+turn c go at sum top fr (Used n) = go (at + n / 4) 1 (sum + n) ((at + n / 4) * 4) fr
+
+unfoldable pub walk : ℕ → List ℕ → ℕ → ℕ → ℕ → ℕ → ℕ → ℕ → Tiled
+walk zero ws c at left sum top fr = Broken
+walk (suc f) ws c at left sum top fr =
+    pick (ltb (at + 1) (length ws))
+    (turn c (walk f ws c) at sum top fr (seenAt ws at left))
+    (pick (eqb (getD ws at 0) (2 + left)) (Whole sum top fr) Broken)
+
+unfoldable pub tiledBy : List ℕ → ℕ → Tiled
+tiledBy ws c = walk (length ws) ws c 0 1 0 0 0
+
+-- what a tally says of a class
+unfoldable pub tallied : Tally → ℕ → Tiled
+tallied t c = pick (t .whole) (Whole (t .sum) (t .top) (getD (t .frees) c 0)) Broken
+
+-- THE CHUNK AT A WORD of the tiling
+unfoldable pub onto : (ℕ → ℕ → Seen) → ℕ → Seen → Seen
+onto go at Bad = Bad
+onto go at (Free n) = go (at + n / 4) 0
+onto go at (Used n) = go (at + n / 4) 1
+
+unfoldable pub chunkFrom : ℕ → List ℕ → ℕ → ℕ → ℕ → Seen
+chunkFrom zero ws w at left = Bad
+chunkFrom (suc f) ws w at left =
+    pick (ltb at w)
+    (onto (chunkFrom f ws w) at (seenAt ws at left))
+    (pick (eqb at w) (seenAt ws at left) Bad)
+
+unfoldable pub chunkOf : List ℕ → ℕ → Seen
+chunkOf ws w = chunkFrom (suc (length ws)) ws w 0 1
+
+-- the same search, on a layout
+unfoldable pub chunkIn : List Chunk → ℕ → ℕ → Seen
+chunkIn [] at w = Bad
+chunkIn (free n ∷ cs) at w = pick (ltb at w) (chunkIn cs (at + n / 4) w) (pick (eqb at w) (Free n) Bad)
+chunkIn (used n ∷ cs) at w = pick (ltb at w) (chunkIn cs (at + n / 4) w) (pick (eqb at w) (Used n) Bad)
+
+-- THE CACHED CHUNK by its link l: none, or a used one
+unfoldable pub usedSeen : Seen → Bool
+usedSeen Bad = false
+usedSeen (Free n) = false
+usedSeen (Used n) = true
+
+unfoldable pub cacheRightᵇ : List ℕ → ℕ → Bool
+cacheRightᵇ ws l = pick (eqb l 0) true (pick (ltb l 6) false (usedSeen (chunkOf ws (l - 6))))
+
+-- THE FIGURES, against n words, the sum of used lengths and the end of the last used chunk
+pub record FiguresFit (f : Figures) (n sum top : ℕ) : Type 0 where
+  pub words : n ≡ f .words
+  pub least : 5 ≤ n
+  pub most : n ≤ 65529
+  pub odd : n % 2 ≡ 1
+  pub inUse : f .«in_use» ≡ sum
+  pub peak : f .«in_use» ≤ f .peak
+  pub high : f .peak ≤ f .high
+  pub heap : f .high ≤ n * 4 - 4
+  pub eights : f .high % 8 ≡ 0
+  pub end : top ≤ f .high

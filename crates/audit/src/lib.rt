@@ -1,0 +1,118 @@
+// The audit: whether a record and its words are sound (document 01, "Sound"), the test that answer 5 goes by. It reads any record and any words.
+//
+// What it costs: the tiling is walked twice whole, with all tests and then with one, and a third time up to the cached chunk; each class list is
+// followed once both ways, and once more for each window of 1,024 words. The stack holds 64 bytes of marks beside the locals, whatever the length.
+//
+//     tiling    chunks, from one header to the next
+//     rings     the class lists as mirrored rings
+//     windows   the free chunks of a stretch of words, marked, against the lists
+//
+// The contract is an equation with the rules' own test. In between stands `proofs/Sound.antt`: the same by words and counts, as the code goes.
+ghost use mathlib.Core.Path.{_≡_};
+ghost use mathlib.Core.Logic.{_↔_};
+ghost use mathlib.Core.Bool.{Bool, true};
+ghost use Rattle.words.specs.Links.{narrow};
+ghost use Rattle.rules.specs.State.{ops};
+ghost use Rattle.rules.specs.Test.{soundᵇ};
+ghost use Rattle.audit.specs.Shown.{shown};
+ghost use Rattle.audit.specs.Walk.{FiguresFit, cacheRightᵇ};
+mod rings;
+mod tiling;
+mod windows;
+use rings::rings_right;
+use tiling::Seen;
+use tiling::chunk_of;
+use tiling::count_chunks;
+use windows::lists_right;
+use words::Link;
+
+// What a record holds beside its links, as the audit reads it.
+pub struct Figures {
+    // The heap's length in words.
+    pub words: u32,
+    // Bytes in use, their peak, and the high water mark.
+    pub in_use: u32,
+    pub peak: u32,
+    pub high: u32,
+    // The cached chunk; link 0 for none.
+    pub cached: Link,
+}
+
+// Whether the cached chunk, if there is one, is a used one.
+fn cache_right(heap: &[u32], cached: Link) -> bool
+    ensures { λ r. ⌜ r ≡ cacheRightᵇ (now (heap .entry)) (cached .0) ⌝ }
+{
+    if cached.0 == 0 {
+        return true;
+    }
+    if cached.0 < 6 {
+        return false;
+    }
+    let hdr = words::link_to_hdr(cached);
+    let seen = chunk_of(heap, hdr.0);
+    match seen {
+        Seen::Bad => false,
+        Seen::Free(_) => false,
+        Seen::Used(_) => true,
+    }
+}
+
+// Whether the figures are right for n words whose used chunks sum up to `sum` and end at `top`.
+fn figures_right(f: Figures, n: usize, sum: usize, top: usize) -> bool
+    ensures { λ (r : Bool). ⌜ (r ≡ true ↔ FiguresFit f n sum top) ⌝ }
+{
+    if f.words as usize != n {
+        return false;
+    }
+    if n < 5 {
+        return false;
+    }
+    if 65529 < n {
+        return false;
+    }
+    if n % 2 == 0 {
+        return false;
+    }
+    if f.in_use as usize != sum {
+        return false;
+    }
+    if f.peak < f.in_use {
+        return false;
+    }
+    if f.high < f.peak {
+        return false;
+    }
+    let high = f.high as usize;
+    if n * 4 - 4 < high {
+        return false;
+    }
+    if high % 8 != 0 {
+        return false;
+    }
+    top <= high
+}
+
+// Whether a record and its words are sound.
+pub fn audit(prev: [Link; 6], next: [Link; 6], figures: Figures, heap: &[u32]) -> bool
+    ensures { λ r. ⌜ r ≡ soundᵇ (ops narrow) 65529 1 (shown prev next figures (now (heap .entry))) ⌝ }
+{
+    let t = count_chunks(heap);
+    let whole = t.whole;
+    if !whole {
+        return false;
+    }
+    let right = figures_right(figures, heap.len(), t.sum, t.top);
+    if !right {
+        return false;
+    }
+    let cache = cache_right(heap, figures.cached);
+    if !cache {
+        return false;
+    }
+    let frees = t.frees;
+    let rings = rings_right(prev, next, heap, frees);
+    if !rings {
+        return false;
+    }
+    lists_right(next, heap, frees)
+}

@@ -1,0 +1,154 @@
+// The tiling: chunks from one header to the next, up to the guard.
+//
+// A walk stands at a header and knows whether its left neighbour is used: `left` is 1 if it is and 0 if not. Contracts cite specs/Walk.antt; what is
+// seen is a layout of specs/Layout.antt, and each layout is seen (proofs/tiling/).
+ghost use mathlib.Core.Path.{_≡_};
+ghost use mathlib.Core.Bool.{Bool, false};
+ghost use Prim.Native.Nat.{ℕ, _<_};
+ghost use Rattle.audit.specs.declared.tiling.Seen.the-variants.{Bad};
+ghost use Rattle.audit.specs.Walk.{seenAt, tiledBy, tallied, chunkOf};
+
+// What stands at a word of the tiling: nothing legal, or a chunk of so many bytes.
+pub(crate) enum Seen {
+    Bad,
+    Free(u32),
+    Used(u32),
+}
+
+// The whole walk's answer.
+pub(crate) struct Tally {
+    // Whether chunks tile the words.
+    pub(crate) whole: bool,
+    // The sum of used lengths.
+    pub(crate) sum: usize,
+    // Where the last used chunk ends, in bytes.
+    pub(crate) top: usize,
+    // How many free chunks each class has.
+    pub(crate) frees: [usize; 6],
+}
+
+// The chunk whose header is word `at`.
+fn seen_at(heap: &[u32], at: usize, left: u32) -> Seen
+    ensures { λ r. ⌜ r ≡ seenAt (now (heap .entry)) at left ⌝ }
+{
+    if heap.len() <= at {
+        return Seen::Bad;
+    }
+    let h = heap[at];
+    if 4 <= h % 8 {
+        return Seen::Bad;
+    }
+    if h < 16 {
+        return Seen::Bad;
+    }
+    if h % 2 != left {
+        return Seen::Bad;
+    }
+    let len = h / 8 * 8;
+    let span = (len / 4) as usize;
+    if heap.len() - at <= span {
+        return Seen::Bad;
+    }
+    if 2 <= h % 4 {
+        return Seen::Used(len);
+    }
+    if left == 0 {
+        return Seen::Bad;
+    }
+    if heap[at + span - 1] != len {
+        return Seen::Bad;
+    }
+    Seen::Free(len)
+}
+
+// The chunk at a header of a tiling that was found whole: what seen_at says there, with one test.
+pub(crate) fn known_at(heap: &[u32], at: usize, left: u32) -> Seen
+    requires { ⌜ (Bad ≡ seenAt (now heap) at left → ⊥) ⌝ }
+    ensures { λ r. ⌜ r ≡ seenAt (now (heap .entry)) at left ⌝ }
+{
+    let h = heap[at];
+    let len = h / 8 * 8;
+    if 2 <= h % 4 {
+        return Seen::Used(len);
+    }
+    Seen::Free(len)
+}
+
+// The answer where there is no tiling.
+fn no_tiling() -> Tally
+    ensures { λ r. ⌜ r .whole ≡ false ⌝ }
+{
+    Tally {
+        whole: false,
+        sum: 0,
+        top: 0,
+        frees: [0; 6],
+    }
+}
+
+// Whether chunks tile the words up to the guard, with the sums, and the number of free chunks of each class.
+pub(crate) fn count_chunks(heap: &[u32]) -> Tally
+    ensures { λ r. ⌜ ((c : ℕ) → c < 6 → tiledBy (now (heap .entry)) c ≡ tallied r c) ⌝ }
+{
+    let mut at: usize = 0;
+    let mut left: u32 = 1;
+    let mut sum: usize = 0;
+    let mut top: usize = 0;
+    let mut frees: [usize; 6] = [0; 6];
+    if heap.len() == 0 {
+        return no_tiling();
+    }
+    while at + 1 < heap.len() {
+        let seen = seen_at(heap, at, left);
+        match seen {
+            Seen::Bad => return no_tiling(),
+            Seen::Free(len) => {
+                let class = words::chunk_size_to_list_index(len) as usize;
+                frees[class] = frees[class] + 1;
+                at = at + (len / 4) as usize;
+                left = 0;
+            }
+            Seen::Used(len) => {
+                at = at + (len / 4) as usize;
+                left = 1;
+                sum = sum + len as usize;
+                top = at * 4;
+            }
+        }
+    }
+    if heap[at] != 2 + left {
+        return no_tiling();
+    }
+    Tally {
+        whole: true,
+        sum: sum,
+        top: top,
+        frees: frees,
+    }
+}
+
+// The chunk whose header is word `w` in the tiling from the left, if there is one.
+pub(crate) fn chunk_of(heap: &[u32], w: usize) -> Seen
+    ensures { λ r. ⌜ r ≡ chunkOf (now (heap .entry)) w ⌝ }
+{
+    let mut at: usize = 0;
+    let mut left: u32 = 1;
+    while at < w {
+        let seen = seen_at(heap, at, left);
+        match seen {
+            Seen::Bad => return Seen::Bad,
+            Seen::Free(len) => {
+                at = at + (len / 4) as usize;
+                left = 0;
+            }
+            Seen::Used(len) => {
+                at = at + (len / 4) as usize;
+                left = 1;
+            }
+        }
+    }
+    if at == w {
+        return seen_at(heap, at, left);
+    }
+    Seen::Bad
+}

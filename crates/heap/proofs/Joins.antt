@@ -1,0 +1,224 @@
+-- How the code's steps join: of each function that calls others, that its callees' promises give its rule. Assumes nothing.
+--     numbers-stored        storing a sentinel's link, as numbers
+--     unlink-by, link-by    the two halves of each store are the rules' unlink and link
+use mathlib.Core.Path.{_≡_, refl, sym, ap, _∙_}
+use mathlib.Core.Bool.{Bool, true, false}
+use mathlib.Core.List.{List, [], _∷_}
+use Prim.Native.Nat.{ℕ, zero, suc, _+_, _-_, _/_, _%_, _^_, _≤_, _<_}
+use native.Mathlib.Omega.{arith}
+use borrow.Author.Tests.{lt-ltb, le-ltb, lt-leb, le-leb}
+use lib.Dec.{ltb}
+use lib.ListN.{getD, set}
+use Rattle.words.specs.declared.names.Link.{Link}
+use Rattle.words.specs.Choice.{pick}
+use Rattle.words.specs.Names.{links, heldName}
+use Rattle.words.specs.Sizes.{classOf}
+use Rattle.words.specs.Tags.{at, headerOf, lengthOf, freeᵇ, leftFreeᵇ, leftUsed, leftFreed, rightOf, footerOf, changed}
+use Rattle.words.specs.Links.{narrow, prev, next, linkAt, setLinkAt, nodeLink, setSentinel, setChunkLink}
+use Rattle.words.specs.Numbers.{numbers}
+use Rattle.words.proofs.Laws.Numbers.{numbers-at, numbers-set}
+use Rattle.rules.specs.Steps.{portion, unlink, link, setLeft, clearLeft, markFree, markUsed, returnExcess, takeChunk, leftFree, rightFree, merge, merged, releaseChunk}
+use Rattle.rules.specs.Making.{State}
+use Rattle.heap.specs.declared.record.Record.{Record}
+use Rattle.heap.specs.Seen.{seen, base, withPrevs, withNexts, stored}
+use Rattle.heap.specs.Chunk.{freed, leftFreeIn, rightFreeIn, caseOf, Releasable}
+
+-- storing a sentinel's link, as numbers
+pub numbers-stored : (ls : List Link) (l : ℕ) (v : Link) → numbers (stored ls l v) ≡ setSentinel (numbers ls) l (v .0)
+unfolding stored
+numbers-stored ls l v = go (ltb l 6)
+  where
+    go : (b : Bool) → numbers (pick b (set ls l v) ls) ≡ pick b (set (numbers ls) l (v .0)) (numbers ls)
+    go true = numbers-set ls l (v .0)
+    go false = refl
+
+-- a sentinel's place is changed, a chunk's is none
+pub stored-sentinel : (ls : List Link) (l : ℕ) (v : Link) → l < 6 → stored ls l v ≡ set ls l v
+unfolding stored
+stored-sentinel ls l v h = rw (lt-ltb l 6 h)
+
+pub stored-chunk : (ls : List Link) (l : ℕ) (v : Link) → 6 ≤ l → stored ls l v ≡ ls
+unfolding stored
+stored-chunk ls l v h = rw (le-ltb l 6 h)
+
+-- a chunk's links stand in the words
+pub prev-chunk : (s : State) (x : ℕ) → 6 ≤ x → base .prev s x ≡ linkAt narrow prev (s .words) (x - 6)
+prev-chunk s x h = rw (le-ltb x 6 h)
+
+pub next-chunk : (s : State) (x : ℕ) → 6 ≤ x → base .next s x ≡ linkAt narrow next (s .words) (x - 6)
+next-chunk s x h = rw (le-ltb x 6 h)
+
+-- storing node x's next link: the record's half and the words' half
+pub next-stored : (r : Record) (ws : List ℕ) (x : ℕ) (v : Link) → seen (withNexts r (stored (r .next) x v)) (setChunkLink narrow next ws x (v .0)) ≡ base .setNext (seen r ws) x (v .0)
+next-stored r ws x v = rw (numbers-stored (r .next) x v)
+
+pub prev-stored : (r : Record) (ws : List ℕ) (x : ℕ) (v : Link) → seen (withPrevs r (stored (r .prev) x v)) (setChunkLink narrow prev ws x (v .0)) ≡ base .setPrev (seen r ws) x (v .0)
+prev-stored r ws x v = rw (numbers-stored (r .prev) x v)
+
+pub unlink-at : (s : State) (x p q : ℕ) → p ≡ base .prev s x → q ≡ base .next s x → unlink base s x ≡ base .setPrev (base .setNext s p q) q p
+unfolding unlink
+unlink-at s x p q ep eq = rw (ep, eq)
+
+pub unlink-by : (r a b : Record) (ws ws1 ws2 : List ℕ) (p q : Link) (x : ℕ) → 6 ≤ x
+    → p .0 ≡ linkAt narrow prev ws (x - 6) → q .0 ≡ linkAt narrow next ws (x - 6)
+    → a ≡ withNexts r (stored (r .next) (p .0) q) → ws1 ≡ setChunkLink narrow next ws (p .0) (q .0)
+    → b ≡ withPrevs a (stored (a .prev) (q .0) p) → ws2 ≡ setChunkLink narrow prev ws1 (q .0) (p .0)
+    → seen b ws2 ≡ unlink base (seen r ws) x
+unlink-by r a b ws ws1 ws2 p q x h ep eq ea e1 eb e2 =
+    let first : seen a ws1 ≡ base .setNext (seen r ws) (p .0) (q .0) = rw (ea, e1) (next-stored r ws (p .0) q) in
+    let second : seen b ws2 ≡ base .setPrev (seen a ws1) (q .0) (p .0) = rw (eb, e2) (prev-stored a ws1 (q .0) p) in
+    second ∙ ap (λ (s : State). base .setPrev s (q .0) (p .0)) first
+    ∙ sym (unlink-at (seen r ws) x (p .0) (q .0) (ep ∙ sym (prev-chunk (seen r ws) x h)) (eq ∙ sym (next-chunk (seen r ws) x h)))
+
+-- a chunk's store is the words' alone, a sentinel's the record's alone
+pub set-next-chunk : (s : State) (x v : ℕ) → 6 ≤ x → base .setNext s x v ≡ record { prevs = s .prevs; nexts = s .nexts; words = setLinkAt narrow next (s .words) (x - 6) v; rest = s .rest }
+set-next-chunk s x v h = rw (le-ltb x 6 h)
+
+pub set-prev-chunk : (s : State) (x v : ℕ) → 6 ≤ x → base .setPrev s x v ≡ record { prevs = s .prevs; nexts = s .nexts; words = setLinkAt narrow prev (s .words) (x - 6) v; rest = s .rest }
+set-prev-chunk s x v h = rw (le-ltb x 6 h)
+
+pub set-next-sentinel : (r : Record) (ws : List ℕ) (k : ℕ) (v : Link) → k < 6 → seen (withNexts r (stored (r .next) k v)) ws ≡ base .setNext (seen r ws) k (v .0)
+set-next-sentinel r ws k v h = rw (numbers-stored (r .next) k v, lt-ltb k 6 h)
+
+-- a sentinel's next link, as the code reads it
+pub next-sentinel : (r : Record) (ws : List ℕ) (k : ℕ) → k < 6 → getD (r .next) k (record { 0 = 0 }) .0 ≡ base .next (seen r ws) k
+next-sentinel r ws k h = rw (lt-ltb k 6 h) (sym (numbers-at (r .next) k))
+
+pub link-at : (s : State) (k x n : ℕ) → n ≡ base .next s k → link base s k x ≡ base .setPrev (base .setNext (base .setPrev (base .setNext s k x) n x) x n) x k
+unfolding link
+link-at s k x n e = rw e
+
+pub link-by : (r a b : Record) (ws ws1 ws2 ws3 : List ℕ) (n : Link) (k : ℕ) (l : Link) → k < 6 → 6 ≤ l .0
+    → n .0 ≡ base .next (seen r ws) k
+    → a ≡ withNexts r (stored (r .next) k l) → b ≡ withPrevs a (stored (a .prev) (n .0) l) → ws1 ≡ setChunkLink narrow prev ws (n .0) (l .0)
+    → ws2 ≡ setLinkAt narrow next ws1 (l .0 - 6) (n .0) → ws3 ≡ setLinkAt narrow prev ws2 (l .0 - 6) k
+    → seen b ws3 ≡ link base (seen r ws) k (l .0)
+link-by r a b ws ws1 ws2 ws3 n k l hk hx en ea eb e1 e2 e3 =
+    let x = l .0 in
+    let first : seen a ws ≡ base .setNext (seen r ws) k x = rw ea (set-next-sentinel r ws k l hk) in
+    let second : seen b ws1 ≡ base .setPrev (seen a ws) (n .0) x = rw (eb, e1) (prev-stored a ws (n .0) l) in
+    let third : seen b ws2 ≡ base .setNext (seen b ws1) x (n .0) = rw e2 (sym (set-next-chunk (seen b ws1) x (n .0) hx)) in
+    let fourth : seen b ws3 ≡ base .setPrev (seen b ws2) x k = rw e3 (sym (set-prev-chunk (seen b ws2) x k hx)) in
+    fourth ∙ ap (λ (s : State). base .setPrev s x k) (third ∙ ap (λ (s : State). base .setNext s x (n .0)) (second ∙ ap (λ (s : State). base .setPrev s (n .0) x) first))
+    ∙ sym (link-at (seen r ws) k x (n .0) en)
+
+-- MERGING, by the number of the case
+module _ (s : State) (l r : ℕ) where
+  pub merge-neither : (b d : Bool) (k : ℕ) → k ≡ caseOf b d → k ≡ 0 → s ≡ merge base b d s l r
+  unfolding merge
+  merge-neither false false k e h = refl
+  merge-neither true false k e h = absurd (omega arith)
+  merge-neither false true k e h = absurd (omega arith)
+  merge-neither true true k e h = absurd (omega arith)
+
+  pub merge-left : (b d : Bool) (k : ℕ) → k ≡ caseOf b d → k ≡ 1 → unlink base s l ≡ merge base b d s l r
+  unfolding merge
+  merge-left false false k e h = absurd (omega arith)
+  merge-left true false k e h = refl
+  merge-left false true k e h = absurd (omega arith)
+  merge-left true true k e h = absurd (omega arith)
+
+  pub merge-right : (b d : Bool) (k : ℕ) → k ≡ caseOf b d → k ≡ 2 → unlink base s r ≡ merge base b d s l r
+  unfolding merge
+  merge-right false false k e h = absurd (omega arith)
+  merge-right true false k e h = absurd (omega arith)
+  merge-right false true k e h = refl
+  merge-right true true k e h = absurd (omega arith)
+
+  pub merge-both : (t u : State) (b d : Bool) (k : ℕ) → t ≡ unlink base s l → u ≡ unlink base t r → k ≡ caseOf b d → (k ≡ 0 → ⊥) → (k ≡ 1 → ⊥) → (k ≡ 2 → ⊥)
+      → u ≡ merge base b d s l r
+  unfolding merge
+  merge-both t u false false k et eu e h0 h1 h2 = absurd (h0 e)
+  merge-both t u true false k et eu e h0 h1 h2 = absurd (h1 e)
+  merge-both t u false true k et eu e h0 h1 h2 = absurd (h2 e)
+  merge-both t u true true k et eu e h0 h1 h2 = eu ∙ ap (λ (v : State). unlink base v r) et
+
+-- FREE NEIGHBOURS: the flag says whether there is one
+pub left-none : (ws : List ℕ) (w : ℕ) (b : Bool) → b ≡ leftFreeᵇ (at ws w) → b ≡ false → 0 ≡ leftFreeIn ws w
+unfolding leftFreeIn
+left-none ws w b e h = rw (sym e ∙ h)
+
+pub left-some : (ws : List ℕ) (w f v : ℕ) (b : Bool) → b ≡ leftFreeᵇ (at ws w) → b ≡ true → f ≡ w - 1 → v ≡ at ws f → v ≡ leftFreeIn ws w
+unfolding leftFreeIn
+left-some ws w f v b e h ef ev = rw (sym e ∙ h) (ev ∙ ap (at ws) ef)
+
+pub right-none : (ws : List ℕ) (w : ℕ) (b : Bool) → b ≡ freeᵇ (at ws w) → b ≡ false → 0 ≡ rightFreeIn ws w
+unfolding rightFreeIn
+right-none ws w b e h = rw (sym e ∙ h)
+
+pub right-some : (ws : List ℕ) (w v : ℕ) (b : Bool) → b ≡ freeᵇ (at ws w) → b ≡ true → v ≡ lengthOf (at ws w) → v ≡ rightFreeIn ws w
+unfolding rightFreeIn
+right-some ws w v b e h ev = rw (sym e ∙ h) ev
+
+-- TAGS of a free chunk
+pub footer-place : (w n f : ℕ) → w < 2 ^ 32 → n < 2 ^ 32 → f ≡ rightOf w n % 2 ^ 64 - 1 → f ≡ footerOf w n
+footer-place w n f hw hn e = omega arith
+
+pub freed-by : (ws ws1 ws2 : List ℕ) (w n f : ℕ) → w < 2 ^ 32 → n < 2 ^ 32 → ws1 ≡ set ws w (headerOf n false true) → f ≡ rightOf w n % 2 ^ 64 - 1 → ws2 ≡ set ws1 f n → ws2 ≡ freed ws w n
+unfolding freed
+freed-by ws ws1 ws2 w n f hw hn e1 ef e2 = rw (e2, footer-place w n f hw hn ef, e1)
+
+-- WHAT A REQUEST GETS
+pub portion-whole : (n z e : ℕ) → e ≡ n - z → e < 12 → n ≡ portion n z
+portion-whole n z e q h = let k : n < z + 12 = omega arith in rw (lt-leb _ _ k)
+
+pub portion-cut : (n z e : ℕ) → e ≡ n - z → 12 ≤ e → z ≡ portion n z
+portion-cut n z e q h = let k : z + 12 ≤ n = omega arith in rw (le-leb _ _ k)
+
+-- a header that links can name: its place and its name are plain sums
+pub held-name : (w x : ℕ) → w + 6 < 65536 → x ≡ heldName links w → x ≡ w + 6
+held-name w x h e = omega arith
+
+pub right-place : (w n j : ℕ) → w < 2 ^ 32 → n < 2 ^ 32 → j ≡ rightOf w n % 2 ^ 64 → j ≡ rightOf w n
+right-place w n j hw hn e = omega arith
+
+-- SPLITTING: the whole chunk is used; or the rest is a free chunk, listed
+pub excess-whole : (r : Record) (ws ws1 : List ℕ) (w n z e j : ℕ) → w < 2 ^ 32 → n < 2 ^ 32 → e ≡ n - z → e < 12 → j ≡ rightOf w n % 2 ^ 64 → ws1 ≡ changed leftUsed ws j
+    → seen r ws1 ≡ returnExcess base (seen r ws) w n z
+unfolding returnExcess setLeft changed
+excess-whole r ws ws1 w n z e j hw hn ee h ej e1 =
+    let k : n < z + 12 = omega arith in
+    rw (lt-leb _ _ k, e1, right-place w n j hw hn ej)
+
+pub excess-cut : (r q : Record) (ws ws1 ws2 : List ℕ) (w n z e j k x : ℕ) → w + n / 4 + 6 < 65536 → z < 2 ^ 32 → e ≡ n - z → 12 ≤ e → j ≡ rightOf w z % 2 ^ 64 → ws1 ≡ freed ws j e
+    → k ≡ classOf e → x ≡ heldName links j → seen q ws2 ≡ link base (seen r ws1) k x → seen q ws2 ≡ returnExcess base (seen r ws) w n z
+unfolding returnExcess markFree freed
+excess-cut r q ws ws1 ws2 w n z e j k x hw hz ee h ej e1 ek ex eq =
+    let c : z + 12 ≤ n = omega arith in
+    let pj : j ≡ rightOf w z = right-place w z j (omega arith) hz ej in
+    let px : x ≡ j + 6 = held-name j x (omega arith) ex in
+    rw (le-leb _ _ c) (eq ∙ rw (e1, ek, px, pj, ee) refl)
+
+-- TAKING
+pub take-by : (r a q : Record) (ws ws1 ws2 ws3 : List ℕ) (x w n z m : ℕ) → 6 ≤ x → w ≡ x - 6 → seen a ws1 ≡ unlink base (seen r ws) x → m ≡ portion n z
+    → ws2 ≡ set ws1 w (headerOf m true true) → seen q ws3 ≡ returnExcess base (seen a ws2) w n z → seen q ws3 ≡ takeChunk base (seen r ws) (x - 6) n z
+unfolding takeChunk markUsed
+take-by r a q ws ws1 ws2 ws3 x w n z m hx ew ea em e2 eq =
+    let ex : x - 6 + 6 ≡ x = omega arith in
+    eq ∙ rw (e2, em) (ap (λ (s : State). returnExcess base (base .setWord s w (headerOf (portion n z) true true)) w n z) ea ∙ rw (ex, ew) refl)
+
+-- RELEASING: its sums stay in range
+pub release-room : (ws : List ℕ) (x n w e f g : ℕ) → Releasable ws x n → x < 65536 → n < 2 ^ 32 → w ≡ x - 6 → e ≡ rightOf w n % 2 ^ 64 → f ≡ leftFreeIn ws w → g ≡ rightFreeIn ws e
+    → (f / 4 ≤ w) × (x + n / 4 + g / 4 < 65536)
+release-room ws x n w e f g h hx hn ew ee ef eg =
+    let pe : e ≡ rightOf (x - 6) n = right-place w n e (omega arith) hn ee ∙ ap (λ (v : ℕ). rightOf v n) ew in
+    let pf : f ≡ leftFreeIn ws (x - 6) = ef ∙ ap (leftFreeIn ws) ew in
+    let pg : g ≡ rightFreeIn ws (rightOf (x - 6) n) = eg ∙ ap (rightFreeIn ws) pe in
+    let hl = h .left in
+    let hr = h .right in
+    (omega arith, omega arith)
+
+pub release-by : (r a q : Record) (ws ws1 ws2 ws3 ws4 : List ℕ) (x n w e f g i m l y j k : ℕ) (b d : Bool) → Releasable ws x n → n < 2 ^ 32 → x < 65536
+    → w ≡ x - 6 → e ≡ rightOf w n % 2 ^ 64 → f ≡ leftFreeIn ws w → g ≡ rightFreeIn ws e → i ≡ w - f / 4 → m ≡ f + (n + g) → l ≡ heldName links i
+    → b ≡ ltb 0 f → d ≡ ltb 0 g → y ≡ heldName links e → seen a ws1 ≡ merge base b d (seen r ws) l y → ws2 ≡ freed ws1 i m → j ≡ rightOf i m % 2 ^ 64 → ws3 ≡ changed leftFreed ws2 j
+    → k ≡ classOf m → m < 2 ^ 32 → seen q ws4 ≡ link base (seen a ws3) k l → seen q ws4 ≡ releaseChunk base (seen r ws) (x - 6) n
+unfolding releaseChunk merged leftFree rightFree leftFreeIn rightFreeIn clearLeft markFree freed changed
+release-by r a q ws ws1 ws2 ws3 ws4 x n w e f g i m l y j k b d h hn hx ew ee ef eg ei em el eb ed ey ea e2 ej e3 ek hm eq =
+    let pe : e ≡ rightOf w n = right-place w n e (omega arith) hn ee in
+    let room : x + n / 4 < 65536 = let q = h .right in omega arith in
+    let pl : l ≡ i + 6 = held-name i l (omega arith) el in
+    let py : y ≡ e + 6 = held-name e y (let c = h .chunk in omega arith) ey in
+    let pj : j ≡ rightOf i m = right-place i m j (omega arith) hm ej in
+    let off : seen a ws1 ≡ merge base (ltb 0 f) (ltb 0 g) (seen r ws) (i + 6) (e + 6) = ea ∙ rw (pl, py, eb, ed) refl in
+    let tagged : seen a ws3 ≡ clearLeft base (markFree base (seen a ws1) i m) (rightOf i m) = rw (e3, e2, pj) refl in
+    eq ∙ rw (ek, pl) (ap (λ (s : State). link base s (classOf m) (i + 6)) (tagged ∙ ap (λ (s : State). clearLeft base (markFree base s i m) (rightOf i m)) off) ∙ rw (em, ei, ef, eg, pe, ew) refl)

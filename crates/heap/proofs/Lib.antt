@@ -1,0 +1,5 @@
+pub mod Joins
+pub mod Answers
+pub mod Marks
+pub mod Walks
+pub mod Tiling

@@ -1,0 +1,13 @@
+-- `heap::record::Record::count_out` meets its contract: bytes in use is what `less` ensures, and the cached chunk is l.
+use borrow.Author.Needs.{needs}
+use Rattle.heap.proofs.record.Record.count_out.Statement.{statement}
+use Rattle.heap.proofs.record.Record.count_out.Tie as tie
+
+less-requires : tie.Need-less-requires
+less-requires c κs = search needs
+
+returns : tie.Need-returns
+returns c = cc
+
+pub count-out-spec : {M : Type 1} → statement M
+count-out-spec = tie.close (tie.spec less-requires returns)

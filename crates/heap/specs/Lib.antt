@@ -1,0 +1,5 @@
+pub mod Seen
+pub mod Mark
+pub mod Chunk
+pub mod Found
+pub mod Answer

@@ -1,0 +1,74 @@
+-- THE RECORD AND ITS WORDS AS A STATE of the rules: what the code's contracts say is said of `seen`.
+use mathlib.Core.Bool.{true, false}
+use mathlib.Core.List.{List, [], _∷_}
+use Prim.Native.Nat.{ℕ, _+_, _-_, max}
+use lib.Dec.{ltb}
+use lib.ListN.{set}
+use Rattle.words.specs.declared.names.Link.{Link}
+use Rattle.words.specs.Choice.{pick}
+use Rattle.words.specs.Links.{narrow}
+use Rattle.words.specs.Numbers.{numbers}
+use Rattle.audit.specs.Shown.{cachedOf}
+use Rattle.rules.specs.Ops.{Ops}
+use Rattle.rules.specs.State.{ops}
+use Rattle.rules.specs.Rules.{Figures}
+use Rattle.rules.specs.Making.{State}
+use Rattle.heap.specs.declared.record.Record.{Record}
+
+-- the operations of narrow links, which this heap is the edition of
+abbrev pub base : Ops State Figures
+base = ops narrow
+
+-- what the record holds beside its links
+abbrev pub figuresOf : Record → Figures
+figuresOf r = record { words = r .words; cached = cachedOf (r .cached .0); inUse = r .«in_use»; peak = r .peak; high = r .high; flag = r .fresh }
+
+-- record and words
+abbrev pub seen : Record → List ℕ → State
+seen r ws = record { prevs = numbers (r .prev); nexts = numbers (r .next); words = ws; rest = figuresOf r }
+
+-- the record with a part changed
+abbrev pub withPrevs : Record → List Link → Record
+withPrevs r ls = record { prev = ls; next = r .next; words = r .words; «in_use» = r .«in_use»; peak = r .peak; high = r .high; cached = r .cached; fresh = r .fresh }
+
+abbrev pub withNexts : Record → List Link → Record
+withNexts r ls = record { prev = r .prev; next = ls; words = r .words; «in_use» = r .«in_use»; peak = r .peak; high = r .high; cached = r .cached; fresh = r .fresh }
+
+abbrev pub withCached : Record → Link → Record
+withCached r l = record { prev = r .prev; next = r .next; words = r .words; «in_use» = r .«in_use»; peak = r .peak; high = r .high; cached = l; fresh = r .fresh }
+
+-- a link stored at a sentinel's place; nothing where l is a chunk's link
+unfoldable pub stored : List Link → ℕ → Link → List Link
+stored ls l v = pick (ltb l 6) (set ls l v) ls
+
+-- a link by its number
+abbrev pub link : ℕ → Link
+link n = record { 0 = n }
+
+-- the empty record, and the record of a heap of n words whose lists are empty
+abbrev pub emptyRecord : Record
+emptyRecord =
+    let zeros = link 0 ∷ link 0 ∷ link 0 ∷ link 0 ∷ link 0 ∷ link 0 ∷ [] in
+    record { prev = zeros; next = zeros; words = 0; «in_use» = 0; peak = 0; high = 0; cached = link 0; fresh = false }
+
+abbrev pub freshRecord : ℕ → Record
+freshRecord n =
+    let selves = link 0 ∷ link 1 ∷ link 2 ∷ link 3 ∷ link 4 ∷ link 5 ∷ [] in
+    record { prev = selves; next = selves; words = n; «in_use» = 0; peak = 0; high = 0; cached = link 0; fresh = false }
+
+-- the counters after a chunk of m bytes that ends at byte e came from a list; after n bytes were released and the chunk l cached
+abbrev pub countedIn : Record → ℕ → ℕ → Record
+countedIn r m e =
+    record {
+      prev = r .prev;
+      next = r .next;
+      words = r .words;
+      «in_use» = r .«in_use» + m;
+      peak = max (r .peak) (r .«in_use» + m);
+      high = max (r .high) e;
+      cached = r .cached;
+      fresh = pick (ltb (r .high) e) true (r .fresh);
+    }
+
+abbrev pub countedOut : Record → ℕ → Link → Record
+countedOut r n l = record { prev = r .prev; next = r .next; words = r .words; «in_use» = r .«in_use» - n; peak = r .peak; high = r .high; cached = l; fresh = r .fresh }

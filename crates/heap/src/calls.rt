@@ -1,0 +1,208 @@
+// The three public calls: make (mcu_heap_init), hand_out (mcu_malloc) and take_back (mcu_free), and the audit that they go by.
+//
+// Each refuses by number, in document 01's order of tests, before it writes anything; what follows a passed audit is heap.rs.
+ghost use mathlib.Core.Path.{_≡_};
+ghost use mathlib.Core.Bool.{true};
+ghost use mathlib.Core.List.{[], _∷_, _++_};
+ghost use Prim.Native.Nat.{_-_, _*_, _≤_, _%_};
+ghost use lib.ListN.{length};
+ghost use Rattle.words.specs.Links.{narrow};
+ghost use Rattle.rules.specs.Rules.{Outcome, fromList, firstFit, serve, settled, live};
+ghost use Rattle.rules.specs.Steps.{oneChunk};
+ghost use Rattle.rules.specs.Making.{make};
+ghost use Rattle.rules.specs.Demands.{hand, back};
+ghost use Rattle.heap.specs.Seen.{seen, base};
+ghost use Rattle.audit.specs.Shown.{cachedOf};
+ghost use Rattle.heap.specs.Answer.{outcome, soundAt, cacheServes, Served};
+use super::live::used_length;
+use super::merge::set_free_chunk_hdr_ftr;
+use super::record::Record;
+use super::search::Found;
+use super::search::search_first_fit;
+use super::split::portion_of;
+use audit::Figures;
+use words::ByteOffset;
+use words::Link;
+use words::WordIndex;
+
+// What a call answers; specs/Answer.antt gives document 01's number, value and compared count of each case.
+pub enum Answer {
+    // done: the payload's offset, 0 for making and taking back; and how many free chunks were compared
+    Done(ByteOffset, u32),
+    ZeroSize,
+    TooLarge,
+    // no fit, and how many free chunks were compared
+    NoFit(u32),
+    NotLive,
+    Damaged,
+    BadLength,
+}
+
+// An answer, and the record after the call.
+pub struct Out {
+    pub answer: Answer,
+    pub rec: Record,
+}
+
+impl Record {
+    // Whether the record and these words are sound.
+    pub fn audit(self, heap: &[u32]) -> bool
+        ensures { λ r. ⌜ r ≡ soundAt (seen self (now (heap .entry))) ⌝ }
+    {
+        let prev = self.prev;
+        let next = self.next;
+        let cached = self.cached;
+        let figures = Figures {
+            words: self.words,
+            in_use: self.in_use,
+            peak: self.peak,
+            high: self.high,
+            cached,
+        };
+        audit::audit(prev, next, figures, heap)
+    }
+
+    // Makes a heap of the whole slice: one free chunk and the guard. Refuses a length that is not odd, or not 5 to 65,529.
+    pub fn make(heap: &mut [u32]) -> Out
+        ensures { λ r. ⌜ outcome (r .answer) (seen (r .rec) (now (heap .exit))) ≡ make narrow 65529 (now (heap .entry)) ⌝ }
+    {
+        let n = heap.len();
+        if n < Self::LEAST_WORDS {
+            return Out { answer: Answer::BadLength, rec: Record::empty() };
+        }
+        if Self::MOST_WORDS < n {
+            return Out { answer: Answer::BadLength, rec: Record::empty() };
+        }
+        if n % 2 != 1 {
+            return Out { answer: Answer::BadLength, rec: Record::empty() };
+        }
+        let rec = Record::of_words(n as u32).one_chunk(heap);
+        Out { answer: Answer::Done(ByteOffset(0), 0), rec }
+    }
+
+    // Hands out a payload of at least `size` bytes.
+    pub fn hand_out(self, heap: &mut [u32], size: u32) -> Out
+        ensures { λ r. ⌜ outcome (r .answer) (seen (r .rec) (now (heap .exit))) ≡ hand base 65529 1 (seen self (now (heap .entry))) size ⌝ }
+    {
+        if size == 0 {
+            return Out { answer: Answer::ZeroSize, rec: self };
+        }
+        if Self::MOST_SIZE < size {
+            return Out { answer: Answer::TooLarge, rec: self };
+        }
+        let sound = self.audit(heap);
+        if !sound {
+            return Out { answer: Answer::Damaged, rec: self };
+        }
+        let z = words::rounded_size(size) as u32;
+        self.serve(heap, z)
+    }
+
+    // Takes back the payload that begins at this offset.
+    pub fn take_back(self, heap: &mut [u32], payload: ByteOffset) -> Out
+        ensures { λ r. ⌜ outcome (r .answer) (seen (r .rec) (now (heap .exit))) ≡ back base 65529 1 (seen self (now (heap .entry))) (payload .0) ⌝ }
+    {
+        let sound = self.audit(heap);
+        if !sound {
+            return Out { answer: Answer::Damaged, rec: self };
+        }
+        let length = self.live_length(heap, payload.0);
+        if length == 0 {
+            return Out { answer: Answer::NotLive, rec: self };
+        }
+        let l = words::hdr_to_link(words::payload_to_hdr(payload));
+        let rec = self.settle(heap, l);
+        Out { answer: Answer::Done(ByteOffset(0), 0), rec }
+    }
+
+    // One free chunk up to the guard, listed.
+    fn one_chunk(self, heap: &mut [u32]) -> Record
+        requires { ⌜ (5 ≤ length (now heap)) × (length (now heap) ≤ 65529) ⌝ }
+        ensures { λ r. ⌜ seen r (now (heap .exit)) ≡ oneChunk base (seen self (now (heap .entry))) (4 * (length (now (heap .entry)) - 1)) ⌝ }
+    {
+        let guard = heap.len() - 1;
+        let bytes = (4 * guard) as u32;
+        set_free_chunk_hdr_ftr(heap, WordIndex(0), bytes);
+        words::put(heap, WordIndex(guard), 2);
+        let class = words::chunk_size_to_list_index(bytes);
+        self.link_chunk(heap, class, Link(6))
+    }
+
+    // The length of the live chunk whose payload begins at p, 0 where none does. Only the tiling tells: not the word before the payload.
+    fn live_length(self, heap: &[u32], p: u32) -> u32
+        ensures { λ r. ⌜ r ≡ live base 1 soundAt (seen self (now (heap .entry))) p ⌝ }
+    {
+        if p < 4 {
+            return 0;
+        }
+        let cached = self.cached.0 as u32;
+        if (p - 4) / 4 + 6 == cached {
+            return 0;
+        }
+        used_length(heap, p - 4)
+    }
+
+    // Caches the chunk l; the chunk that was cached before is released.
+    fn settle(self, heap: &mut [u32], l: Link) -> Record
+        requires { ⌜ (soundAt (seen self (now heap)) ≡ true) × (6 ≤ l .0) ⌝ }
+        ensures { λ r. ⌜ seen r (now (heap .exit)) ≡ settled base 1 soundAt (seen self (now (heap .entry))) (cachedOf (self .cached .0) ++ l .0 ∷ []) ⌝ }
+    {
+        let old = self.cached;
+        if old.0 == 0 {
+            return self.with_cached(l);
+        }
+        let n = words::get_hdr_chunk_size(heap, words::link_to_hdr(old));
+        let a = self.release_chunk(heap, old, n);
+        a.count_out(n, l)
+    }
+
+    // Whether the cached chunk, if there is one, serves a rounded size: long enough, and at most SLACK bytes too long.
+    fn cache_serves(self, heap: &[u32], z: u32) -> bool
+        ensures { λ r. ⌜ r ≡ cacheServes (seen self (now (heap .entry))) z ⌝ }
+    {
+        let cached = self.cached;
+        if cached.0 == 0 {
+            return false;
+        }
+        let n = words::get_hdr_chunk_size(heap, words::link_to_hdr(cached));
+        if n < z {
+            return false;
+        }
+        n - z <= Self::SLACK
+    }
+
+    // Serves a rounded size on a sound heap: from the cache, else from the lists.
+    fn serve(self, heap: &mut [u32], z: u32) -> Out
+        requires { ⌜ Served (seen self (now heap)) z ⌝ }
+        ensures { λ r. ⌜ outcome (r .answer) (seen (r .rec) (now (heap .exit))) ≡ serve base 1 soundAt (seen self (now (heap .entry))) z ⌝ }
+    {
+        let hit = self.cache_serves(heap, z);
+        if hit {
+            let payload = words::hdr_to_payload(words::link_to_hdr(self.cached));
+            return Out { answer: Answer::Done(payload, 0), rec: self.with_cached(Link(0)) };
+        }
+        self.serve_listed(heap, z)
+    }
+
+    // Serves a rounded size on a sound heap from the lists.
+    fn serve_listed(self, heap: &mut [u32], z: u32) -> Out
+        requires { ⌜ Served (seen self (now heap)) z ⌝ }
+        ensures { λ r. ⌜ outcome (r .answer) (seen (r .rec) (now (heap .exit))) ≡ fromList base 1 soundAt (seen self (now (heap .entry))) z (firstFit base 1 soundAt (seen self (now (heap .entry))) z) ⌝ }
+    {
+        let next = self.next;
+        let found = search_first_fit(next, heap, z);
+        match found {
+            Found::Lost => Out { answer: Answer::Damaged, rec: self },
+            Found::Nothing(c) => Out { answer: Answer::NoFit(c as u32), rec: self },
+            Found::At(l, c) => {
+                let hdr = words::link_to_hdr(l);
+                let n = words::get_hdr_chunk_size(heap, hdr);
+                let m = portion_of(n, z);
+                let a = self.take_chunk(heap, l, n, z);
+                let end = words::hdr_to_offset(words::hdr_to_right_hdr(hdr, m));
+                let rec = a.count_in(m, end.0);
+                Out { answer: Answer::Done(words::hdr_to_payload(hdr), c as u32), rec }
+            }
+        }
+    }
+}

@@ -1,0 +1,195 @@
+// The record: what heap.rs keeps in statics (SENTINELS, CACHED, CUR_ALLOC_SIZE, MAX_ALLOC_SIZE, HIGH_WATER_MARK and its flag).
+//
+// It is plain data, passed and handed back by value; all bytes zero is the empty record, as a kernel's static memory is at reset.
+ghost use mathlib.Core.Path.{_≡_};
+ghost use Prim.Native.Nat.{_+_, _-_, _<_, _^_, max};
+ghost use mathlib.Core.Bool.{true};
+ghost use lib.Dec.{ltb};
+ghost use Rattle.words.specs.Choice.{pick};
+ghost use Rattle.heap.specs.Seen.{emptyRecord, freshRecord, withCached, countedIn, countedOut, stored, withPrevs, withNexts};
+ghost use Rattle.heap.specs.Mark.{markOf};
+use words::Link;
+
+#[repr(C)]
+pub struct Record {
+    // the prev link of each list's sentinel: its last chunk, or the sentinel itself
+    pub prev: [Link; 6],
+    // the next link of each list's sentinel: its first chunk, or the sentinel itself
+    pub next: [Link; 6],
+    // how many words the heap has; 0 before a heap is made
+    pub words: u32,
+    // the sum of used lengths, that of the cached chunk included
+    pub in_use: u32,
+    // the largest that sum has been
+    pub peak: u32,
+    // the largest end, in bytes, of a chunk that was handed out
+    pub high: u32,
+    // the cached chunk; link 0, which names no chunk, if there is none
+    pub cached: Link,
+    // high water has risen since the mark was last read
+    pub fresh: bool,
+}
+
+// What the mark says: nothing new, or high water less the stacks' share.
+pub enum Mark {
+    Unchanged,
+    At(i64),
+}
+
+// The mark, and the record with its flag off.
+pub struct Marked {
+    pub mark: Mark,
+    pub rec: Record,
+}
+
+impl Record {
+    pub const LEAST_WORDS: usize = 5;
+    pub const MOST_WORDS: usize = 65529;
+    pub const MOST_SIZE: u32 = 4294967284;
+    pub const LEAST_CHUNK: u32 = 16;
+    pub const FREE_CHUNK_MIN_SIZE: u32 = 12;
+    pub const SLACK: u32 = 512;
+    pub const STACKLET: u64 = 108;
+
+    // The record before a heap is made.
+    pub fn empty() -> Record
+        ensures { λ r. ⌜ r ≡ emptyRecord ⌝ }
+    {
+        Record {
+            prev: [Link(0); 6],
+            next: [Link(0); 6],
+            words: 0,
+            in_use: 0,
+            peak: 0,
+            high: 0,
+            cached: Link(0),
+            fresh: false,
+        }
+    }
+
+    // The record of a heap of so many words, with empty lists.
+    pub(crate) fn of_words(words: u32) -> Record
+        ensures { λ r. ⌜ r ≡ freshRecord words ⌝ }
+    {
+        Record {
+            prev: [Link(0), Link(1), Link(2), Link(3), Link(4), Link(5)],
+            next: [Link(0), Link(1), Link(2), Link(3), Link(4), Link(5)],
+            words,
+            in_use: 0,
+            peak: 0,
+            high: 0,
+            cached: Link(0),
+            fresh: false,
+        }
+    }
+
+    // Bytes in use.
+    pub fn in_use(self) -> u32
+        ensures { λ r. ⌜ r ≡ self .«in_use» ⌝ }
+    {
+        self.in_use
+    }
+
+    // The most bytes that were in use.
+    pub fn peak(self) -> u32
+        ensures { λ r. ⌜ r ≡ self .peak ⌝ }
+    {
+        self.peak
+    }
+
+    // High water: the largest end of a chunk that was handed out.
+    pub fn high_water(self) -> u32
+        ensures { λ r. ⌜ r ≡ self .high ⌝ }
+    {
+        self.high
+    }
+
+    // The mark of allocator/mod.rs: if high water has risen, high water less 108 bytes a stacklet, and the flag clears.
+    pub fn mark(self, stacklets: u32) -> Marked
+        ensures { λ r. ⌜ r ≡ markOf self stacklets ⌝ }
+    {
+        let fresh = self.fresh;
+        if !fresh {
+            return Marked { mark: Mark::Unchanged, rec: self };
+        }
+        let high = self.high;
+        let mut rec = self;
+        rec.fresh = false;
+        let stacks = Self::STACKLET * (stacklets as u64);
+        let top = high as u64;
+        Marked { mark: Mark::At((top as i64) - (stacks as i64)), rec }
+    }
+
+    // The record's half of storing a node's prev link: nothing where the node is a chunk.
+    pub(crate) fn set_sentinel_prev(mut self, l: Link, to: Link) -> Record
+        ensures { λ r. ⌜ r ≡ withPrevs self (stored (self .prev) (l .0) to) ⌝ }
+    {
+        let k = l.0 as usize;
+        if k < 6 {
+            self.prev[k] = to;
+        }
+        self
+    }
+
+    // The record's half of storing a node's next link.
+    pub(crate) fn set_sentinel_next(mut self, l: Link, to: Link) -> Record
+        ensures { λ r. ⌜ r ≡ withNexts self (stored (self .next) (l .0) to) ⌝ }
+    {
+        let k = l.0 as usize;
+        if k < 6 {
+            self.next[k] = to;
+        }
+        self
+    }
+
+    // The record with another cached chunk; link 0 for none.
+    pub(crate) fn with_cached(mut self, l: Link) -> Record
+        ensures { λ r. ⌜ r ≡ withCached self l ⌝ }
+    {
+        self.cached = l;
+        self
+    }
+
+    // The counters after a chunk of m bytes that ends at byte `end` came from a list.
+    pub(crate) fn count_in(mut self, m: u32, end: u32) -> Record
+        requires { ⌜ self .«in_use» + m < 2 ^ 32 ⌝ }
+        ensures { λ r. ⌜ r ≡ countedIn self m end ⌝ }
+    {
+        let sum = self.in_use + m;
+        self.in_use = sum;
+        self.peak = larger(self.peak, sum);
+        self.fresh = risen(self.high, end, self.fresh);
+        self.high = larger(self.high, end);
+        self
+    }
+
+    // The counters after a chunk of n bytes left the cache for a list, and the chunk l came into it.
+    pub(crate) fn count_out(mut self, n: u32, l: Link) -> Record
+        ensures { λ r. ⌜ r ≡ countedOut self n l ⌝ }
+    {
+        self.in_use = less(self.in_use, n);
+        self.cached = l;
+        self
+    }
+}
+
+// The larger of two numbers.
+fn larger(a: u32, b: u32) -> u32
+    ensures { λ r. ⌜ r ≡ max a b ⌝ }
+{
+    if a < b { b } else { a }
+}
+
+// The difference, 0 where it would be negative.
+pub(crate) fn less(a: u32, b: u32) -> u32
+    ensures { λ r. ⌜ r ≡ a - b ⌝ }
+{
+    if b <= a { a - b } else { 0 }
+}
+
+// The flag after a handout that ends at `end`: on if high water rises, else as it was.
+fn risen(high: u32, end: u32, fresh: bool) -> bool
+    ensures { λ r. ⌜ r ≡ pick (ltb high end) true fresh ⌝ }
+{
+    if high < end { true } else { fresh }
+}
