@@ -40,7 +40,7 @@ use Rattle.heap.specs.Seen.{seen, base, figuresOf, withCached, countedIn
 use Rattle.heap.specs.Chunk.{freed, leftFreeIn, rightFreeIn, Releasable}
 use Rattle.heap.specs.Answer.{outcome, soundAt, servedBy, cacheServes, Served}
 use Rattle.audit.specs.Shown.{cachedOf}
-use Rattle.rules.proofs.Base.{Edition}
+use Rattle.rules.proofs.Store.{Edition}
 use Rattle.rules.proofs.Widths.{narrow-laws}
 use Rattle.rules.proofs.Editions.{edition, narrow-fits}
 use Rattle.rules.proofs.Bounds.{FoundFits, found-fitsᵇ, never-lostᵇ, nowhere-shortᵇ, CachedFits, cached-fitsᵇ, ReleaseFits, release-fitsᵇ, LiveFits, live-fitsᵇ, FiguresFit, figures-fitᵇ}
