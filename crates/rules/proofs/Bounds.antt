@@ -33,7 +33,7 @@ use Rattle.rules.specs.Search.{at, nowhere, lost}
 use Rattle.rules.proofs.Search.{find-fits, Fits, find-counts, Counts}
 use Rattle.rules.specs.Place.{usedAt}
 use Rattle.rules.proofs.Place.{free-at, used-at}
-use Rattle.rules.proofs.Threshold.{cls6}
+use Rattle.words.proofs.Laws.Sizes.{class-below}
 use Rattle.rules.proofs.Named.{size-at, listed-few}
 use Rattle.rules.specs.Rules.{Figures, byteOf, nameOf, firstFit, live}
 use Rattle.rules.specs.Machine.{Model, sizeM, searched}
@@ -148,7 +148,7 @@ module _ {S : Type 0} {op : Ops S Figures} {most places : ℕ} (E : Edition op m
 
     met-few : (z c : ℕ) → c ≤ length (searched m z) → c ≤ op .count s / 4
     met-few z c q =
-        let l = listed-few (L E s m h) classOf cls6 s (m .orders) (m .cs) (whole E s m h) (6 - startOf z) (startOf z) (omega arith) in
+        let l = listed-few (L E s m h) classOf class-below s (m .orders) (m .cs) (whole E s m h) (6 - startOf z) (startOf z) (omega arith) in
         let f = few E s m h in
         omega arith
 
@@ -165,10 +165,10 @@ module _ {S : Type 0} {op : Ops S Figures} {most places : ℕ} (E : Edition op m
     free-place : (z x c n : ℕ) → z ≤ lengthAt op s x → c ≤ op .count s / 4 → In (slot x n) (frees 0 (m .cs)) → FoundFits op s z x c
     free-place z x c n zn cn i =
         let f = free-at 0 (m .cs) (slot x n) i in
-        let w = subst (λ cs. Whole (L E s m h) classOf cls6 s (m .orders) cs) (f .is) (whole E s m h) in
+        let w = subst (λ cs. Whole (L E s m h) classOf class-below s (m .orders) cs) (f .is) (whole E s m h) in
         let l = legal-back (f .pre) (free n ∷ f .post) (w .legal) in
         let t8 = total-8 (f .pre) (legal-front (f .pre) (free n ∷ f .post) (w .legal)) in
-        let y : lengthAt op s x ≡ n = size-at (L E s m h) classOf cls6 s (m .orders) (f .pre) n (f .post) x (f .named) w in
+        let y : lengthAt op s x ≡ n = size-at (L E s m h) classOf class-below s (m .orders) (f .pre) n (f .post) x (f .named) w in
         let b : x ≡ (0 + total (f .pre)) / 4 + 6 = f .named in
         let k : total (f .pre) / 4 ≡ 2 * (total (f .pre) / 8) = omega arith in
         let n8 : n % 8 ≡ 0 = l .1 in
@@ -226,7 +226,7 @@ module _ {S : Type 0} {op : Ops S Figures} {most places : ℕ} (E : Edition op m
         let lt = left-there E (L E s m h) s (u .pre) n (u .post) x (u .byte) x6 lg tg in
         let at′ : rightOf (x - 6) (lengthAt op s x) ≡ (0 + total (u .pre) + n) / 4 = omega arith in
         let rt : rightFree op s (rightOf (x - 6) (lengthAt op s x)) ≡ freeHead (u .post) =
-        ap (λ (j : ℕ). rightFree op s j) at′ ∙ right-read (L E s m h) classOf cls6 s (0 + total (u .pre) + n) (u .post) (l .2)
+        ap (λ (j : ℕ). rightFree op s j) at′ ∙ right-read (L E s m h) classOf class-below s (0 + total (u .pre) + n) (u .post) (l .2)
         ((tags-back (op .word s) 0 true (u .pre) (busy n ∷ u .post) tg) .2) in
         let hd = head-8 (u .post) (l .2) in
         let hd1 = hd .1 in

@@ -18,7 +18,7 @@ use Rattle.rules.specs.Tags.{Tags, Foot, headTag}
 use Rattle.rules.specs.Exact.{Slot, slot, In, frees, Exact}
 use Rattle.rules.specs.Place.{usedAt}
 use Rattle.words.specs.Sizes.{classOf}
-use Rattle.rules.proofs.Threshold.{cls6}
+use Rattle.words.proofs.Laws.Sizes.{class-below}
 use Rattle.rules.proofs.Enough.{tile-tags}
 use Rattle.rules.specs.Test.{both, legalᵇ, calmᵇ, tagsᵇ, segᵇ, belowᵇ, everyᵇ, slotᵇ, exactᵇ, distinctᵇ, underᵇ, cacheᵇ, figuresᵇ, showsᵇ, candidate, soundᵇ}
 use Rattle.rules.proofs.Named.{order-few}
@@ -231,14 +231,14 @@ module _ {S : Type 0} {op : Ops S Figures} {most places : ℕ} (E : Edition op m
     orders-are : (k : ℕ) → k < 6 → candidate op most places s .orders k ≡ m .orders k
     unfolding candidate
     orders-are k q =
-        let o = order-few (L E s m h) classOf cls6 s (m .orders) (m .cs) (whole E s m h) k q in
+        let o = order-few (L E s m h) classOf class-below s (m .orders) (m .cs) (whole E s m h) k q in
         let c = few E s m h in
         let n = h .accepted .0 in
         walk-ring (op .next s) (op .prev s) k (m .orders k) (op .count s) (ring-once (L E s m h) s (m .orders) (whole E s m h .rings) k q) (omega arith) (h .lists k q)
 
     exact-is : Exact classOf (candidate op most places s .orders) (frees 0 (m .cs))
     exact-is = record {
-      listed = λ x n i. subst (λ t. Mem x t) (sym (orders-are (classOf n) (cls6 n))) (h .exact .listed x n i);
+      listed = λ x n i. subst (λ t. Mem x t) (sym (orders-are (classOf n) (class-below n))) (h .exact .listed x n i);
       only = λ k x q i. h .exact .only k x q (subst (λ t. Mem x t) (orders-are k q) i);
     }
 

@@ -19,7 +19,7 @@ use Rattle.rules.specs.Search.{Found, at, nowhere}
 use Rattle.rules.proofs.Search.{find-fits, Fits, find-counts, Counts}
 use Rattle.rules.specs.Place.{lenAt, usedAt}
 use Rattle.rules.proofs.Place.{free-at, len-at, used-at, used-skip}
-use Rattle.rules.proofs.Threshold.{cls6}
+use Rattle.words.proofs.Laws.Sizes.{class-below}
 use Rattle.rules.proofs.Exactly.{none-fits, some-fits, few-compared, five-listed, Few}
 use Rattle.rules.specs.Rules.{Figures, byteOf, nameOf, listed}
 use Rattle.rules.specs.Machine.{Model, sizeM, searched, searchM, handOutM, liveM, takeBackM}
@@ -157,7 +157,7 @@ module _ {S : Type 0} {op : Ops S Figures} {most places : ℕ} (E : Edition op m
       where
         none : (c : ℕ) → searchM m (roundedOf size) ≡ nowhere c → (x n : ℕ) → In (slot x n) (frees 0 (m .cs)) → n < thresholdOf (roundedOf size)
         none c e x n i = subst (λ (k : ℕ). k < thresholdOf (roundedOf size)) (slot-size (m .cs) x n (h .legal) i)
-            (none-fits (sizeM m) (m .orders) (classed s m h) (roundedOf size) c e (classOf n) x (cls6 n) (h .exact .listed x n i))
+            (none-fits (sizeM m) (m .orders) (classed s m h) (roundedOf size) c e (classOf n) x (class-below n) (h .exact .listed x n i))
 
         taken : (x c : ℕ) → searchM m (roundedOf size) ≡ at x c → NoFit m (roundedOf size) → ⊥
         taken x c e f =

@@ -9,6 +9,7 @@ use native.Mathlib.Omega.{arith}
 use lib.Dec.{eqb}
 use lib.ListN.{length, length-append}
 use borrow.Author.Tests.{ne-eqb}
+use Rattle.words.proofs.Laws.Choice.{bit-small}
 use Rattle.words.specs.Choice.{pick, bit}
 use Rattle.rules.specs.Lists.{Mem, Distinct, Seg}
 use Rattle.rules.proofs.Lists.{around}
@@ -23,7 +24,7 @@ use Rattle.rules.proofs.Exact.{frees-from}
 use Rattle.rules.specs.Tags.{Tags}
 use Rattle.rules.proofs.Part.{legal-front, legal-back}
 use Rattle.rules.proofs.Calls.{Whole, total-8}
-use Rattle.rules.proofs.Place.{free-at, header-len, header-used, bit-le}
+use Rattle.rules.proofs.Place.{free-at, header-len, header-used}
 use Rattle.rules.specs.Test.{tile}
 
 -- a ring that does not pass its sentinel has each node once: no test
@@ -101,12 +102,12 @@ pub tile-tags : (f : ℕ → ℕ) (fuel e : ℕ) (l : Bool) (cs : List Chunk) �
 unfolding tile
 tile-tags f zero e l cs g h t = absurd (not-suc-le-zero h)
 tile-tags f (suc fuel) e l [] g h t =
-    let k = bit-le l in
+    let k = bit-small l in
     let z : f (e / 4) / 4 * 4 ≡ 0 = header-len (f (e / 4)) 0 1 (bit l) refl (omega arith) k (let q : f (e / 4) ≡ 2 + bit l = t in omega arith) in
     rw z refl
 tile-tags f (suc fuel) e l (c ∷ cs) g h t =
-    let kl = bit-le l in
-    let ku = bit-le (c .used) in
+    let kl = bit-small l in
+    let ku = bit-small (c .used) in
     let n16 : 16 ≤ c .len = g .0 in
     let z : f (e / 4) / 4 * 4 ≡ c .len = header-len (f (e / 4)) (c .len) (bit (c .used)) (bit l) (g .1) ku kl (t .0) in
     let u : f (e / 4) / 2 % 2 ≡ bit (c .used) = header-used (f (e / 4)) (c .len) (bit (c .used)) (bit l) (g .1) ku kl (t .0) in

@@ -10,6 +10,7 @@ use lib.Dec.{eqb, leb, ltb}
 use lib.ListN.{length, getD, drop, length-append}
 use lib.Seq.{take-append-seam, getD-append-seam}
 use borrow.Author.Tests.{eqb-true, eqb-false, leb-true}
+use Rattle.words.proofs.Laws.Choice.{bit-small}
 use Rattle.words.specs.Choice.{pick, bit}
 use Rattle.rules.specs.Lists.{Mem, Distinct, Seg}
 use Rattle.rules.specs.Ops.{Ops}
@@ -30,9 +31,9 @@ use Rattle.rules.proofs.Take.{take-refines}
 use Rattle.rules.specs.Search.{Found, at, nowhere, lost}
 use Rattle.rules.proofs.Search.{find-fits, Fits, in-turn, search-walk}
 use Rattle.rules.specs.Place.{lenAt, usedAt}
-use Rattle.rules.proofs.Place.{free-at, len-at, index-at, used-walk, used-at, header-len, bit-le}
+use Rattle.rules.proofs.Place.{free-at, len-at, index-at, used-walk, used-at, header-len}
 use Rattle.words.specs.Sizes.{classOf, roundedOf, startOf}
-use Rattle.rules.proofs.Threshold.{cls6}
+use Rattle.words.proofs.Laws.Sizes.{class-below}
 use Rattle.rules.proofs.Enough.{enough}
 use Rattle.rules.proofs.Named.{chunks-few, size-at, byte-at, size-same, listed-few}
 use Rattle.rules.specs.Rules.{Figures, Outcome, says, byteOf, nameOf, Chosen, none, one, behind, serves, choose, listed, withCached, counted, released}
@@ -178,7 +179,7 @@ module _ {S : Type 0} {op : Ops S Figures} {most places : ℕ} (E : Edition op m
   F = Follows op most places
 
   -- from a whole heap BACK to what a state shows
-  pub shown : (n : ℕ) (a : Accepted most n) (t : S) (m : Model) → Whole (E .store n a) classOf cls6 t (m .orders) (m .cs) → Calm (m .cs) → op .rest t ≡ m .figs
+  pub shown : (n : ℕ) (a : Accepted most n) (t : S) (m : Model) → Whole (E .store n a) classOf class-below t (m .orders) (m .cs) → Calm (m .cs) → op .rest t ≡ m .figs
       → m .figs .words ≡ n
       → CacheRight places (m .figs .cached) (m .cs) → FiguresRight (m .figs) (4 * (n - 1)) (m .cs) → Sh t m
   shown n a t m w k r e c f =
@@ -200,7 +201,7 @@ module _ {S : Type 0} {op : Ops S Figures} {most places : ℕ} (E : Edition op m
         right = subst (λ (x : ℕ). FiguresRight (m .figs) (4 * (x - 1)) (m .cs)) (sym y) f;
       }
 
-  pub whole-rest : (L : LinkStore op) (s : S) (r : Figures) (O : ℕ → List ℕ) (cs : List Chunk) → Whole L classOf cls6 s O cs → Whole L classOf cls6 (op .setRest s r) O cs
+  pub whole-rest : (L : LinkStore op) (s : S) (r : Figures) (O : ℕ → List ℕ) (cs : List Chunk) → Whole L classOf class-below s O cs → Whole L classOf class-below (op .setRest s r) O cs
   whole-rest L s r O cs w = record {
     rings = record {
       good = L .good-setRest s r (w .rings .good);
@@ -225,9 +226,9 @@ module _ {S : Type 0} {op : Ops S Figures} {most places : ℕ} (E : Edition op m
     bytes = E .bytes (op .count s) (h .accepted)
 
     -- INTO a whole heap
-    pub whole : Whole L classOf cls6 s (m .orders) (m .cs)
+    pub whole : Whole L classOf class-below s (m .orders) (m .cs)
     whole =
-        enough L classOf cls6 s (m .orders) (m .cs) (L .good-is s bytes (h .accepted .0) (h .six)) (h .legal) (h .fills ∙ sym bytes) (h .tags) (h .lists) (h .exact)
+        enough L classOf class-below s (m .orders) (m .cs) (L .good-is s bytes (h .accepted .0) (h .six)) (h .legal) (h .fills ∙ sym bytes) (h .tags) (h .lists) (h .exact)
 
     -- a chunk takes at least 16 bytes
     pub few : length (m .cs) ≤ op .count s / 4
@@ -237,13 +238,13 @@ module _ {S : Type 0} {op : Ops S Figures} {most places : ℕ} (E : Edition op m
     pub search-same : (sound : S → Bool) (z : ℕ) → firstFit op places sound s z ≡ searchM m z
     unfolding firstFit
     search-same sound z =
-        let l = listed-few L classOf cls6 s (m .orders) (m .cs) whole (6 - startOf z) (startOf z) (omega arith) in
+        let l = listed-few L classOf class-below s (m .orders) (m .cs) whole (6 - startOf z) (startOf z) (omega arith) in
         let c = few in
         search-walk (op .next s) (op .prev s) (lengthAt op s) (sizeM m) z (op .count s / 4) (m .orders) (6 - startOf z) (startOf z) 0
         (λ j q. let hj : j < 6 = omega arith in (
           (ring-once L s (m .orders) (whole .rings) j hj) .0,
           h .lists j hj,
-          size-same L classOf cls6 s (m .orders) (m .cs) whole j hj,
+          size-same L classOf class-below s (m .orders) (m .cs) whole j hj,
         ))
         (omega arith)
 
@@ -257,7 +258,7 @@ module _ {S : Type 0} {op : Ops S Figures} {most places : ℕ} (E : Edition op m
     pub met-size : (z x : ℕ) → Mem x (searched m z) → lengthAt op s x ≡ sizeM m x
     met-size z x i =
         let t = in-turn (m .orders) (6 - startOf z) (startOf z) x i in
-        size-same L classOf cls6 s (m .orders) (m .cs) whole (t .0) (let p = t .2 in omega arith) x (t .3)
+        size-same L classOf class-below s (m .orders) (m .cs) whole (t .0) (let p = t .2 in omega arith) x (t .3)
 
     -- a used chunk's length, read from its header
     pub used-size : (x : ℕ) → 6 ≤ x → 0 < usedAt (m .cs) (byteOf x) → lengthAt op s x ≡ usedAt (m .cs) (byteOf x)
@@ -269,7 +270,7 @@ module _ {S : Type 0} {op : Ops S Figures} {most places : ℕ} (E : Edition op m
         let y : (x - 6) * 4 ≡ total (u .pre) = u .byte in
         let q : x - 6 ≡ (0 + total (u .pre)) / 4 = omega arith in
         ap (λ (i : ℕ). op .word s i / 4 * 4) q ∙ header-len (op .word s ((0 + total (u .pre)) / 4)) n 1 (bit (lastUsed true (u .pre))) (l .1) (omega arith)
-        (bit-le (lastUsed true (u .pre))) (t .0)
+        (bit-small (lastUsed true (u .pre))) (t .0)
 
     pub used-same : (x : ℕ) → 6 ≤ x → 0 < usedAt (m .cs) (byteOf x) → lengthAt op s x ≡ sizeM m x
     used-same x h6 p = used-size x h6 p ∙ sym (used-len (m .cs) (byteOf x) (h .legal) p)
@@ -303,7 +304,7 @@ module _ {S : Type 0} {op : Ops S Figures} {most places : ℕ} (E : Edition op m
       let ln = legal-back pre (free n ∷ post) (h .legal) in
       let t8 = total-8 pre lp in
       let b : byteOf x ≡ 0 + total pre = byte-at pre x lp e in
-      let y : lengthAt op s x ≡ n = size-at L classOf cls6 s O pre n post x e w in
+      let y : lengthAt op s x ≡ n = size-at L classOf class-below s O pre n post x e w in
       let i = index-at pre (free n) post (0 + total pre) lp (omega arith) in
       let j = len-at pre (free n) post (0 + total pre) lp (omega arith) in
       let p8 = portion-8 n z (ln .1) z8 in
@@ -326,7 +327,7 @@ module _ {S : Type 0} {op : Ops S Figures} {most places : ℕ} (E : Edition op m
       (shown (op .count s) a (op .setRest (takeStep op classOf s (0 + total pre) n z) g)
       (model (taken (pre ++ free n ∷ post) (length pre) z) (takenOrders classOf O (0 + total pre) n z) g)
       (whole-rest L (takeStep op classOf s (0 + total pre) n z) g (takenOrders classOf O (0 + total pre) n z) (taken (pre ++ free n ∷ post) (length pre) z)
-      (take-refines L classOf cls6 s O pre n post z z16 z8 (h .calm) w))
+      (take-refines L classOf class-below s O pre n post z z16 z8 (h .calm) w))
       (taken-calm (pre ++ free n ∷ post) (length pre) z (h .calm) (free-seam pre n post))
       (L .rest-setRest (takeStep op classOf s (0 + total pre) n z) g (E .fit (op .count s) a g (h .cache .room) (λ k q. (h .cache .used k q) .0)))
       (h .words) c
@@ -342,7 +343,7 @@ module _ {S : Type 0} {op : Ops S Figures} {most places : ℕ} (E : Edition op m
       → (leftFree op s (k - 6) % 8 ≡ 0) × (leftFree op s (k - 6) / 4 ≤ k - 6)
   left-there L s pre n post k e k6 l t =
       let q : k - 6 ≡ (0 + total pre) / 4 = omega arith in
-      let r : leftFree op s (k - 6) ≡ freeLast 0 pre = ap (λ (w : ℕ). leftFree op s w) q ∙ left-read L classOf cls6 s pre n post l t in
+      let r : leftFree op s (k - 6) ≡ freeLast 0 pre = ap (λ (w : ℕ). leftFree op s w) q ∙ left-read L classOf class-below s pre n post l t in
       let z = freeLast-8 0 pre refl (legal-front pre (busy n ∷ post) l) in
       let y = freeLast-le 0 pre in
       (omega arith, omega arith)
@@ -380,7 +381,7 @@ module _ {S : Type 0} {op : Ops S Figures} {most places : ℕ} (E : Edition op m
       (shown (op .count s) a (op .setRest (releaseStep op classOf s (0 + total pre) n) g)
       (model cs (mergedOrders classOf O (0 + total pre - freeLast 0 pre) (freeLast 0 pre) n (freeHead post)) g)
       (whole-rest L (releaseStep op classOf s (0 + total pre) n) g (mergedOrders classOf O (0 + total pre - freeLast 0 pre) (freeLast 0 pre) n (freeHead post)) cs
-      (release-refines L classOf cls6 s O pre n post (h .calm) w))
+      (release-refines L classOf class-below s O pre n post (h .calm) w))
       (release-calm (pre ++ busy n ∷ post) (length pre) (h .calm))
       (L .rest-setRest (releaseStep op classOf s (0 + total pre) n) g (E .fit (op .count s) a g rm (λ x q. (us x q) .0)))
       (h .words) c

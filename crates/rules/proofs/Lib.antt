@@ -3,7 +3,6 @@ pub mod Seg
 pub mod Bytes
 pub mod Store
 pub mod Rings
-pub mod Widths
 pub mod Heap
 pub mod Walk
 pub mod Chunks
@@ -24,7 +23,6 @@ pub mod Keep
 pub mod KeepLive
 pub mod Enough
 pub mod Sums
-pub mod Threshold
 pub mod LayoutFacts
 pub mod Follow
 pub mod Decide

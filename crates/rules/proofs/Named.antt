@@ -6,6 +6,7 @@ use Prim.Native.Nat.{ℕ, suc, _+_, _-_, _*_, _/_, _≤_, _<_}
 use native.Mathlib.Omega.{arith}
 use native.Mathlib.Nat.{zero-add}
 use lib.ListN.{length}
+use Rattle.words.proofs.Laws.Choice.{bit-small}
 use Rattle.words.specs.Choice.{pick, bit}
 use Rattle.rules.specs.Lists.{Mem}
 use Rattle.rules.specs.Ops.{Ops}
@@ -20,7 +21,7 @@ use Rattle.rules.specs.Search.{inTurn}
 use Rattle.rules.proofs.Search.{in-turn, turn-distinct, no-more}
 use Rattle.rules.specs.Rules.{byteOf}
 use Rattle.rules.specs.Place.{lenAt}
-use Rattle.rules.proofs.Place.{free-at, len-at, header-len, bit-le}
+use Rattle.rules.proofs.Place.{free-at, len-at, header-len}
 
 pub chunks-few : (cs : List Chunk) → Legal cs → 16 * length cs ≤ total cs
 chunks-few [] l = omega arith
@@ -57,7 +58,7 @@ module _ {S R : Type 0} {op : Ops S R} (L : LinkStore op) (cls : ℕ → ℕ) (c
       let t = tags-back (op .word s) 0 true pre (free n ∷ post) (w .tags) in
       let q : x - 6 ≡ (0 + total pre) / 4 = omega arith in
       ap (λ (i : ℕ). op .word s i / 4 * 4) q ∙ header-len (op .word s ((0 + total pre) / 4)) n 0 (bit (lastUsed true pre)) (l .1) (omega arith)
-      (bit-le (lastUsed true pre)) (t .0)
+      (bit-small (lastUsed true pre)) (t .0)
 
   module _ (cs : List Chunk) (w : Whole L cls cls6 s O cs) where
     pub size-same : (j : ℕ) → j < 6 → (x : ℕ) → Mem x (O j) → lengthAt op s x ≡ lenAt cs (byteOf x)

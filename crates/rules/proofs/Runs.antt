@@ -29,12 +29,12 @@ use Rattle.rules.specs.Place.{indexAt, usedAt}
 use Rattle.rules.proofs.Place.{free-at, index-at, used-at}
 use Rattle.rules.proofs.Named.{size-at, byte-at}
 use Rattle.words.specs.Sizes.{classOf, roundedOf}
-use Rattle.rules.proofs.Threshold.{cls6}
+use Rattle.words.proofs.Laws.Sizes.{class-below}
 use Rattle.rules.specs.TwoRuns.{Event, requests, run, answers, Allowed, replies, steps}
 use Rattle.rules.specs.TwoRuns as two
 use Rattle.rules.proofs.TwoRun.{Laws, two-runs, run-abs, run-answers}
 use Rattle.words.specs.Links.{Width}
-use Rattle.rules.proofs.Widths.{WidthLaws}
+use Rattle.words.proofs.Laws.Links.{Lawful}
 use Rattle.rules.specs.State.{ops}
 use Rattle.rules.specs.Rules.{Figures, says, byteOf, nameOf, Chosen, none, one, choose, withCached, released, fromList, fromCache, serve, handOut}
 use Rattle.rules.specs.Rules.{settled, takeBack}
@@ -63,7 +63,7 @@ module _ {S : Type 0} {op : Ops S Figures} {most places : ℕ} (E : Edition op m
   pub write-shows : (s : S) (m : Model) (i v : ℕ) → Sh s m → Live op most places s i → Sh (op .setWord s i v) m
   write-shows s m i v h l =
       shown E (op .count s) (h .accepted) (op .setWord s i v) m
-      (live-write (L E s m h) classOf cls6 s (m .orders) (m .cs) i v (payload-of s m i h l) (whole E s m h)) (h .calm)
+      (live-write (L E s m h) classOf class-below s (m .orders) (m .cs) i v (payload-of s m i h l) (whole E s m h)) (h .calm)
       (L E s m h .rest-setWord s i v ∙ h .figs) (h .words) (h .cache) (h .right)
 
   pub follows : (q : Request) (s : S) (m : Model) → Sh s m → Follows op most places (call op most places q s) (callM places q m)
@@ -115,9 +115,9 @@ module _ {S : Type 0} {op : Ops S Figures} {most places : ℕ} (E : Edition op m
       let w = whole E s m h in
       let lp = legal-front pre (free n ∷ post) (h .legal) in
       L E s m h .word-setRest (takeChunk op s (x - 6) (lengthAt op s x) z) r i
-      ∙ rw (take-words op s (x - 6) (lengthAt op s x) z (omega arith), size-at (L E s m h) classOf cls6 s O pre n post x e w, byte-at pre x lp e)
-      (take-keeps (L E s m h) classOf cls6 pre post (calm-left pre n post (h .calm)) s O n z i z16 z8 w
-      (payload-off (L E s m h) classOf cls6 (pre ++ free n ∷ post) i (h .legal) p) (payload-out pre n post i p))
+      ∙ rw (take-words op s (x - 6) (lengthAt op s x) z (omega arith), size-at (L E s m h) classOf class-below s O pre n post x e w, byte-at pre x lp e)
+      (take-keeps (L E s m h) classOf class-below pre post (calm-left pre n post (h .calm)) s O n z i z16 z8 w
+      (payload-off (L E s m h) classOf class-below (pre ++ free n ∷ post) i (h .legal) p) (payload-out pre n post i p))
 
   module _ (s : S) (m : Model) (h : Sh s m) (i : ℕ) where
     hand-keeps : (size : ℕ) → Payload (m .cs) i → op .word (hand op most places s size .after) i ≡ op .word s i
@@ -153,7 +153,7 @@ module _ {S : Type 0} {op : Ops S Figures} {most places : ℕ} (E : Edition op m
     gave-keeps k ks r k6 up p p″ =
         let n = usedAt (m .cs) (byteOf k) in
         let u = used-at (m .cs) (byteOf k) (omega arith) in
-        let w = subst (λ cs. Whole (L E s m h) classOf cls6 s (m .orders) cs) (u .is) (whole E s m h) in
+        let w = subst (λ cs. Whole (L E s m h) classOf class-below s (m .orders) cs) (u .is) (whole E s m h) in
         let c = subst Calm (u .is) (h .calm) in
         let lp = legal-front (u .pre) (busy n ∷ u .post) (w .legal) in
         let lq = (legal-back (u .pre) (busy n ∷ u .post) (w .legal)) .2 in
@@ -167,9 +167,9 @@ module _ {S : Type 0} {op : Ops S Figures} {most places : ℕ} (E : Edition op m
         ∙ ap (λ (t : S). op .word t i) (release-words op s (k - 6) (lengthAt op s k) (omega arith) (lt .1))
         ∙ ap (λ (t : ℕ). op .word (releaseStep op classOf s (byteOf k) t) i) y
         ∙ ap (λ (t : ℕ). op .word (releaseStep op classOf s t n) i) b
-        ∙ release-keeps (L E s m h) classOf cls6 s (m .orders) n i (u .pre) (u .post) c w
-        (payload-off (L E s m h) classOf cls6 (u .pre ++ busy n ∷ u .post) i (w .legal) (subst (λ ds. Payload ds i) (u .is) p))
-        (shape-out (L E s m h) classOf cls6 s n _ _ _ i (shape (L E s m h) classOf cls6 s n (u .pre) (u .post) c lq) (subst (λ ds. Payload ds i) q p″))
+        ∙ release-keeps (L E s m h) classOf class-below s (m .orders) n i (u .pre) (u .post) c w
+        (payload-off (L E s m h) classOf class-below (u .pre ++ busy n ∷ u .post) i (w .legal) (subst (λ ds. Payload ds i) (u .is) p))
+        (shape-out (L E s m h) classOf class-below s n _ _ _ i (shape (L E s m h) classOf class-below s n (u .pre) (u .post) c lq) (subst (λ ds. Payload ds i) q p″))
 
     settled-keeps : (ks : List ℕ) → ((x : ℕ) → Mem x ks → (6 ≤ x) × (0 < usedAt (m .cs) (byteOf x))) → Payload (m .cs) i → Payload (settledM places m ks .cs) i
         → op .word (settled op places (soundᵇ op most places) s ks) i ≡ op .word s i
@@ -210,7 +210,7 @@ module _ {S : Type 0} {op : Ops S Figures} {most places : ℕ} (E : Edition op m
       (payload-of (back op most places s p .after) (takeBackM places (l .shows) p .after) i (back-follows E s (l .shows) (l .abs) p .after) l′)
 
 -- DEMAND 3, from making on, for any two link widths: the editions agree. With one width these are two heaps of one edition
-module _ {W W′ : Width} (E : WidthLaws W) (E′ : WidthLaws W′) (most most′ places : ℕ) (f : most + 6 ≤ W .limit) (f′ : most′ + 6 ≤ W′ .limit) where
+module _ {W W′ : Width} (E : Lawful W) (E′ : Lawful W′) (most most′ places : ℕ) (f : most + 6 ≤ W .limit) (f′ : most′ + 6 ≤ W′ .limit) where
   pub two-heaps : (ws ws′ : List ℕ) → length ws ≡ length ws′ → Accepted most (length ws) → Accepted most′ (length ws′) → (es fs : List (Event Request))
       → requests es ≡ requests fs
       → Allowed (acts (ops W) most places) es (oneChunk (ops W) (fresh ws) (4 * (length ws - 1)))

@@ -11,14 +11,11 @@ use Rattle.rules.proofs.Bytes.{wholeUsed, cutUsed, oneFree}
 use Rattle.rules.proofs.Store.{LinkStore}
 use Rattle.rules.specs.Chunks.{Chunk, free, busy, total, Legal}
 use Rattle.rules.proofs.Chunks.{total-append}
+use Rattle.words.proofs.Laws.Choice.{bit-small}
 use Rattle.words.specs.Choice.{bit}
 use Rattle.rules.specs.Tags.{headTag, Tags}
 use Rattle.rules.proofs.Tags.{lastUsed, tags-back, tags-head}
 use Rattle.rules.proofs.Part.{Part, legal-front, legal-back, outside, write-rings, retag}
-
-bit-lt : (x : Bool) → bit x < 2
-bit-lt true = omega arith
-bit-lt false = omega arith
 
 headTag-even : (cs : List Chunk) → Legal cs → headTag cs % 2 ≡ 0
 headTag-even [] g = refl
@@ -146,7 +143,7 @@ module _ {S R : Type 0} {op : Ops S R} (L : LinkStore op) where
         (write-rings L cls cls6 pre post O s m (b / 4) _ lp lq (p .exact) (omega arith) (omega arith) (p .rings))))
         (λ i h. L .word-setWord′ s2 _ _ i (omega arith) ∙ L .word-setWord′ s1 _ _ i (omega arith) ∙ L .word-setWord′ s _ _ i (omega arith))
         (λ i h. L .word-setWord′ s2 _ _ i (omega arith) ∙ L .word-setWord′ s1 _ _ i (omega arith) ∙ L .word-setWord′ s _ _ i (omega arith))
-        (let q = tags-head (op .word s) (b + m) (lastUsed l mid) post tq in let e = headTag-even post lq in let k = bit-lt (lastUsed l mid) in
+        (let q = tags-head (op .word s) (b + m) (lastUsed l mid) post tq in let e = headTag-even post lq in let k = bit-small (lastUsed l mid) in
         let r2 : op .word s2 ((b + m) / 4) ≡ op .word s ((b + m) / 4) = L .word-setWord′ s1 _ _ ((b + m) / 4) (omega arith) ∙ L .word-setWord′ s _ _ ((b + m) / 4)
         (omega arith) in
         L .word-setWord s2 _ _ g2 (L .inw ((b + m) / 4) (omega arith)) ∙ omega arith) (
