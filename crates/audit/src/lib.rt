@@ -16,9 +16,11 @@ ghost use Rattle.rules.specs.State.{ops};
 ghost use Rattle.rules.specs.Test.{soundᵇ};
 ghost use Rattle.audit.specs.Shown.{shown};
 ghost use Rattle.audit.specs.Walk.{FiguresFit, cacheRightᵇ};
+
 mod rings;
 mod tiling;
 mod windows;
+
 use rings::rings_right;
 use tiling::Seen;
 use tiling::chunk_of;

@@ -265,7 +265,7 @@ module _ (r : Record) (ws : List ℕ) (z : ℕ) (h : Served (seen r ws) z) where
       let pay : p .0 ≡ byteOf x + 4 = payload-place x i (p .0) ei low ep in
       let kept : figuresOf a ≡ figuresOf r = ap (λ (s : State). s .rest) ea ∙ take-rest (seen r ws) (x - 6) n z in
       let state : seen q ws1 ≡ base .setRest (takeChunk base (seen r ws) (x - 6) n z) (counted (figuresOf r) m (byteOf x + m)) =
-          rw (eq, end) (ap (λ (k : Figures). base .setRest (seen a ws1) (counted k m (byteOf x + m))) kept ∙ ap (λ (s : State). base .setRest s (counted (figuresOf r) m (byteOf x + m))) ea) in
+      rw (eq, end) (ap (λ (k : Figures). base .setRest (seen a ws1) (counted k m (byteOf x + m))) kept ∙ ap (λ (s : State). base .setRest s (counted (figuresOf r) m (byteOf x + m))) ea) in
       subst (λ (k : Found). outcome (Done p d) (seen q ws1) ≡ fromList base 1 soundAt (seen r ws) z k) ef (rw (state, pay, ed, em, v) refl)
 
 -- ---- WHAT IS LIVE
@@ -308,7 +308,7 @@ module _ (r : Record) (ws : List ℕ) (l : Link) where
       let v : n ≡ lengthAt base (seen r ws) (r .cached .0) = en ∙ ap (λ (j : ℕ). lengthOf (at ws j)) ei in
       let kept : figuresOf a ≡ figuresOf r = ap (λ (s : State). s .rest) ea ∙ release-rest (seen r ws) (r .cached .0 - 6) n in
       let state : seen q ws1 ≡ base .setRest (releaseChunk base (seen r ws) (r .cached .0 - 6) n) (released (figuresOf r) (l .0 ∷ []) n) =
-          rw (eq, ne-eqb _ _ k) (ap (λ (f : Figures). base .setRest (seen a ws1) (released f (l .0 ∷ []) n)) kept ∙ ap (λ (s : State). base .setRest s (released (figuresOf r) (l .0 ∷ []) n)) ea) in
+      rw (eq, ne-eqb _ _ k) (ap (λ (f : Figures). base .setRest (seen a ws1) (released f (l .0 ∷ []) n)) kept ∙ ap (λ (s : State). base .setRest s (released (figuresOf r) (l .0 ∷ []) n)) ea) in
       state ∙ rw (ne-eqb _ _ h, ← v) refl
 
   -- the bounds that releasing the cached chunk asks for

@@ -3,3 +3,4 @@ pub mod Mark
 pub mod Chunk
 pub mod Found
 pub mod Answer
+pub mod Promises

@@ -6,13 +6,11 @@ ghost use mathlib.Core.Bool.{true};
 ghost use mathlib.Core.List.{[], _∷_, _++_};
 ghost use Prim.Native.Nat.{_-_, _*_, _≤_, _%_};
 ghost use lib.ListN.{length};
-ghost use Rattle.words.specs.Links.{narrow};
 ghost use Rattle.rules.specs.Rules.{Outcome, fromList, firstFit, serve, settled, live};
 ghost use Rattle.rules.specs.Steps.{oneChunk};
-ghost use Rattle.rules.specs.Making.{make};
-ghost use Rattle.rules.specs.Demands.{hand, back};
 ghost use Rattle.heap.specs.Seen.{seen, base};
 ghost use Rattle.audit.specs.Shown.{cachedOf};
+ghost use Rattle.heap.specs.Promises.{Makes, HandsOut, TakesBack};
 ghost use Rattle.heap.specs.Answer.{outcome, soundAt, cacheServes, Served};
 use super::live::used_length;
 use super::merge::set_free_chunk_hdr_ftr;
@@ -64,35 +62,56 @@ impl Record {
 
     // Makes a heap of the whole slice: one free chunk and the guard. Refuses a length that is not odd, or not 5 to 65,529.
     pub fn make(heap: &mut [u32]) -> Out
-        ensures { λ r. ⌜ outcome (r .answer) (seen (r .rec) (now (heap .exit))) ≡ make narrow 65529 (now (heap .entry)) ⌝ }
+        ensures { λ r. ⌜ Makes (now (heap .entry)) r (now (heap .exit)) ⌝ }
     {
         let n = heap.len();
         if n < Self::LEAST_WORDS {
-            return Out { answer: Answer::BadLength, rec: Record::empty() };
+            return Out {
+                answer: Answer::BadLength,
+                rec: Record::empty(),
+            };
         }
         if Self::MOST_WORDS < n {
-            return Out { answer: Answer::BadLength, rec: Record::empty() };
+            return Out {
+                answer: Answer::BadLength,
+                rec: Record::empty(),
+            };
         }
         if n % 2 != 1 {
-            return Out { answer: Answer::BadLength, rec: Record::empty() };
+            return Out {
+                answer: Answer::BadLength,
+                rec: Record::empty(),
+            };
         }
         let rec = Record::of_words(n as u32).one_chunk(heap);
-        Out { answer: Answer::Done(ByteOffset(0), 0), rec }
+        Out {
+            answer: Answer::Done(ByteOffset(0), 0),
+            rec,
+        }
     }
 
     // Hands out a payload of at least `size` bytes.
     pub fn hand_out(self, heap: &mut [u32], size: u32) -> Out
-        ensures { λ r. ⌜ outcome (r .answer) (seen (r .rec) (now (heap .exit))) ≡ hand base 65529 1 (seen self (now (heap .entry))) size ⌝ }
+        ensures { λ r. ⌜ HandsOut self (now (heap .entry)) size r (now (heap .exit)) ⌝ }
     {
         if size == 0 {
-            return Out { answer: Answer::ZeroSize, rec: self };
+            return Out {
+                answer: Answer::ZeroSize,
+                rec: self,
+            };
         }
         if Self::MOST_SIZE < size {
-            return Out { answer: Answer::TooLarge, rec: self };
+            return Out {
+                answer: Answer::TooLarge,
+                rec: self,
+            };
         }
         let sound = self.audit(heap);
         if !sound {
-            return Out { answer: Answer::Damaged, rec: self };
+            return Out {
+                answer: Answer::Damaged,
+                rec: self,
+            };
         }
         let z = words::rounded_size(size) as u32;
         self.serve(heap, z)
@@ -100,19 +119,28 @@ impl Record {
 
     // Takes back the payload that begins at this offset.
     pub fn take_back(self, heap: &mut [u32], payload: ByteOffset) -> Out
-        ensures { λ r. ⌜ outcome (r .answer) (seen (r .rec) (now (heap .exit))) ≡ back base 65529 1 (seen self (now (heap .entry))) (payload .0) ⌝ }
+        ensures { λ r. ⌜ TakesBack self (now (heap .entry)) (payload .0) r (now (heap .exit)) ⌝ }
     {
         let sound = self.audit(heap);
         if !sound {
-            return Out { answer: Answer::Damaged, rec: self };
+            return Out {
+                answer: Answer::Damaged,
+                rec: self,
+            };
         }
         let length = self.live_length(heap, payload.0);
         if length == 0 {
-            return Out { answer: Answer::NotLive, rec: self };
+            return Out {
+                answer: Answer::NotLive,
+                rec: self,
+            };
         }
         let l = words::hdr_to_link(words::payload_to_hdr(payload));
         let rec = self.settle(heap, l);
-        Out { answer: Answer::Done(ByteOffset(0), 0), rec }
+        Out {
+            answer: Answer::Done(ByteOffset(0), 0),
+            rec,
+        }
     }
 
     // One free chunk up to the guard, listed.
@@ -179,7 +207,10 @@ impl Record {
         let hit = self.cache_serves(heap, z);
         if hit {
             let payload = words::hdr_to_payload(words::link_to_hdr(self.cached));
-            return Out { answer: Answer::Done(payload, 0), rec: self.with_cached(Link(0)) };
+            return Out {
+                answer: Answer::Done(payload, 0),
+                rec: self.with_cached(Link(0)),
+            };
         }
         self.serve_listed(heap, z)
     }
@@ -192,8 +223,14 @@ impl Record {
         let next = self.next;
         let found = search_first_fit(next, heap, z);
         match found {
-            Found::Lost => Out { answer: Answer::Damaged, rec: self },
-            Found::Nothing(c) => Out { answer: Answer::NoFit(c as u32), rec: self },
+            Found::Lost => Out {
+                answer: Answer::Damaged,
+                rec: self,
+            },
+            Found::Nothing(c) => Out {
+                answer: Answer::NoFit(c as u32),
+                rec: self,
+            },
             Found::At(l, c) => {
                 let hdr = words::link_to_hdr(l);
                 let n = words::get_hdr_chunk_size(heap, hdr);
@@ -201,7 +238,10 @@ impl Record {
                 let a = self.take_chunk(heap, l, n, z);
                 let end = words::hdr_to_offset(words::hdr_to_right_hdr(hdr, m));
                 let rec = a.count_in(m, end.0);
-                Out { answer: Answer::Done(words::hdr_to_payload(hdr), c as u32), rec }
+                Out {
+                    answer: Answer::Done(words::hdr_to_payload(hdr), c as u32),
+                    rec,
+                }
             }
         }
     }

@@ -12,13 +12,14 @@
 //
 // Any record, any memory and any number may be passed to a public function. Its contract is one equation with a rule of crate `rules`, on
 // the record and words as `seen` (specs/Seen.antt) reads them.
-mod record;
-mod lists;
-mod merge;
-mod split;
-mod search;
-mod live;
 mod calls;
+mod lists;
+mod live;
+mod merge;
+mod record;
+mod search;
+mod split;
+
 pub use calls::Answer;
 pub use calls::Out;
 pub use record::Mark;

@@ -92,7 +92,13 @@ impl Record {
         let name = words::hdr_to_link(merged);
         let left_is = 0 < before;
         let right_is = 0 < after;
-        let a = self.merge_neighbor_if_possible(heap, left_is, right_is, name, words::hdr_to_link(right));
+        let a = self.merge_neighbor_if_possible(
+            heap,
+            left_is,
+            right_is,
+            name,
+            words::hdr_to_link(right),
+        );
         set_free_chunk_hdr_ftr(heap, merged, m);
         words::set_left_free(heap, words::hdr_to_right_hdr(merged, m));
         let class = words::chunk_size_to_list_index(m);

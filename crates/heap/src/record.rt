@@ -44,11 +44,17 @@ pub struct Marked {
 
 impl Record {
     pub const LEAST_WORDS: usize = 5;
+
     pub const MOST_WORDS: usize = 65529;
+
     pub const MOST_SIZE: u32 = 4294967284;
+
     pub const LEAST_CHUNK: u32 = 16;
+
     pub const FREE_CHUNK_MIN_SIZE: u32 = 12;
+
     pub const SLACK: u32 = 512;
+
     pub const STACKLET: u64 = 108;
 
     // The record before a heap is made.
@@ -110,14 +116,20 @@ impl Record {
     {
         let fresh = self.fresh;
         if !fresh {
-            return Marked { mark: Mark::Unchanged, rec: self };
+            return Marked {
+                mark: Mark::Unchanged,
+                rec: self,
+            };
         }
         let high = self.high;
         let mut rec = self;
         rec.fresh = false;
         let stacks = Self::STACKLET * (stacklets as u64);
         let top = high as u64;
-        Marked { mark: Mark::At((top as i64) - (stacks as i64)), rec }
+        Marked {
+            mark: Mark::At((top as i64) - (stacks as i64)),
+            rec,
+        }
     }
 
     // The record's half of storing a node's prev link: nothing where the node is a chunk.

@@ -18,7 +18,14 @@ pub enum Found {
 }
 
 // The first chunk of at least `size` bytes in the list of a class; `compared` were compared before, of `limit` in all.
-fn walk_list(next: [Link; 6], heap: &[u32], class: u16, size: u32, limit: usize, compared: usize) -> Found
+fn walk_list(
+    next: [Link; 6],
+    heap: &[u32],
+    class: u16,
+    size: u32,
+    limit: usize,
+    compared: usize,
+) -> Found
     requires { ⌜ (class < 6) × (compared ≤ limit) ⌝ }
     ensures { λ r. ⌜ told r ≡ walkIn (numbers next) (now (heap .entry)) size limit class compared ⌝ }
 {

@@ -12,7 +12,13 @@ use words::WordIndex;
 impl Record {
     // Of the total bytes at a used header only `size` are kept, if at least FREE_CHUNK_MIN_SIZE would remain: the right part becomes a free
     // chunk at the head of its list. Else the right neighbour learns that the whole chunk is used.
-    pub(crate) fn return_excess_to_free_list(self, heap: &mut [u32], hdr: WordIndex, total: u32, size: u32) -> Record
+    pub(crate) fn return_excess_to_free_list(
+        self,
+        heap: &mut [u32],
+        hdr: WordIndex,
+        total: u32,
+        size: u32,
+    ) -> Record
         requires { ⌜ hdr .0 + total / 4 + 6 < 65536 ⌝ }
         ensures { λ r. ⌜ seen r (now (heap .exit)) ≡ returnExcess base (seen self (now (heap .entry))) (hdr .0) total size ⌝ }
     {
@@ -44,5 +50,9 @@ pub(crate) fn portion_of(n: u32, z: u32) -> u32
     ensures { λ r. ⌜ r ≡ portion n z ⌝ }
 {
     let excess = less(n, z);
-    if excess < Record::FREE_CHUNK_MIN_SIZE { n } else { z }
+    if excess < Record::FREE_CHUNK_MIN_SIZE {
+        n
+    } else {
+        z
+    }
 }

@@ -40,7 +40,7 @@ lists-right-requires : tie.Need-lists-right-requires
 lists-right-requires c κs = ringed-of (c .before .before .before .before .before .before .before .before .before .before .args .prev) _ (c .before .before .before .before .before .before .before .before .before .before .args .figures) _ _ (c .before .before .before .before .before .before .before .before .count-chunks .ensures) (not-false _ (c .before .before .before .before .before .before .before .if1 .left)) (c .before .rings-right .ensures .0 (not-false _ (c .if4 .left)))
 
 returns-5 : tie.Need-returns-5
-returns-5 c = 
+returns-5 c =
     tells (c .before .before .before .before .before .before .before .before .before .before .before .args .prev) (c .before .before .before .before .before .before .before .before .before .before .before .args .next) (c .before .before .before .before .before .before .before .before .before .before .before .args .figures) (now (c .before .before .before .before .before .before .before .before .before .before .before .args .heap)) (omega (arith, c .before .before .before .before .before .before .before .before .before .before .before .good)) (omega (arith, c .before .before .before .before .before .before .before .before .before .before .before .good)) _ (passed-on _ (c .lists-right .ensures)
     (sound-of _ _ _ _ _ (c .before .before .before .before .before .before .before .before .before .count-chunks .ensures) (not-false _ (c .before .before .before .before .before .before .before .before .if1 .left)) (c .before .before .rings-right .ensures .0 (not-false _ (c .before .if4 .left)))
     (c .before .before .before .before .before .before .before .figures-right .ensures .0 (not-false _ (c .before .before .before .before .before .before .if2 .left)))

@@ -51,10 +51,11 @@ returns-9 c = refused (λ p. omega arith)
 
 returns-10 : tie.Need-returns-10
 returns-10 c = (
-      (λ e.
+  (λ e.
       let h : c .before .before .before .before .before .before .before .before .before .before .before .before .before .before .args .top ≤ c .before .before .before .before .before .before .before .before .before .before .before .before .before .before .args .f .high = leb-true _ _ e in
       record { words = omega arith; least = omega arith; most = omega arith; odd = omega arith; inUse = omega arith; peak = omega arith; high = omega arith; heap = omega arith; eights = omega arith; end = h }),
-      (λ p. le-leb _ _ (p .end)))
+  (λ p. le-leb _ _ (p .end)),
+)
 
 pub figures-right-spec : {M : Type 1} → statement M
 figures-right-spec =

@@ -19,7 +19,7 @@ shared-slice-read-h c = search needs
 
 returns-2 : tie.Need-returns-2
 unfolding seenAt pick
-returns-2 c = 
+returns-2 c =
     simp (
       lt-ltb _ _ (c .before .before .if1 .left),
       le-ltb _ _ (c .if2 .taken),
@@ -27,7 +27,7 @@ returns-2 c =
 
 returns-3 : tie.Need-returns-3
 unfolding seenAt pick
-returns-3 c = 
+returns-3 c =
     simp (
       lt-ltb _ _ (c .before .before .before .if1 .left),
       lt-ltb _ _ (c .before .if2 .left),
@@ -36,7 +36,7 @@ returns-3 c =
 
 returns-4 : tie.Need-returns-4
 unfolding seenAt pick
-returns-4 c = 
+returns-4 c =
     simp (
       lt-ltb _ _ (c .before .before .before .before .if1 .left),
       lt-ltb _ _ (c .before .before .if2 .left),
@@ -55,7 +55,7 @@ sub-if5 c = search needs
 
 returns-5 : tie.Need-returns-5
 unfolding seenAt pick
-returns-5 c = 
+returns-5 c =
     simp (
       lt-ltb _ _ (c .before .before .before .before .before .if1 .left),
       lt-ltb _ _ (c .before .before .before .if2 .left),
@@ -66,7 +66,7 @@ returns-5 c =
 
 returns-6 : tie.Need-returns-6
 unfolding seenAt pick
-returns-6 c = 
+returns-6 c =
     simp (
       lt-ltb _ _ (c .before .before .before .before .before .before .if1 .left),
       lt-ltb _ _ (c .before .before .before .before .if2 .left),
@@ -78,7 +78,7 @@ returns-6 c =
 
 returns-7 : tie.Need-returns-7
 unfolding seenAt pick
-returns-7 c = 
+returns-7 c =
     simp (
       lt-ltb _ _ (c .before .before .before .before .before .before .before .if1 .left),
       lt-ltb _ _ (c .before .before .before .before .before .if2 .left),
@@ -103,7 +103,7 @@ shared-slice-read-if8 c = search needs
 
 returns-8 : tie.Need-returns-8
 unfolding seenAt pick
-returns-8 c = 
+returns-8 c =
     simp (
       lt-ltb _ _ (c .before .before .before .before .before .before .before .before .before .if1 .left),
       lt-ltb _ _ (c .before .before .before .before .before .before .before .if2 .left),
@@ -117,7 +117,7 @@ returns-8 c =
 
 returns-9 : tie.Need-returns-9
 unfolding seenAt pick
-returns-9 c = 
+returns-9 c =
     simp (
       lt-ltb _ _ (c .before .before .before .before .before .before .before .before .before .if1 .left),
       lt-ltb _ _ (c .before .before .before .before .before .before .before .if2 .left),

@@ -1,26 +1,19 @@
+-- `heap::merge::right_free` meets its contract: the flag says whether the chunk is free, and its header how long it is.
 use borrow.Author.Needs.{needs}
 use borrow.Author.Tests.{not-true, not-false}
 use Rattle.heap.proofs.Joins.{right-none, right-some}
 use Rattle.heap.proofs.merge.right_free.Statement.{statement}
 use Rattle.heap.proofs.merge.right_free.Tie as tie
-use Rattle.heap.proofs.merge.right_free.Reads as reads
-use Rattle.heap.proofs.merge.right_free.Lts as lts
-use Rattle.words.proofs.get_hdr_chunk_size.Reads as get-hdr-chunk-size-reads
-use Rattle.words.proofs.is_this_free.Reads as is-this-free-reads
 
--- src/merge.rt:38:9
 is-this-free-requires : tie.Need-is-this-free-requires
 is-this-free-requires c κs = search needs
 
--- src/merge.rt:40:9
 returns : tie.Need-returns
 returns c = right-none _ _ _ (c .before .is-this-free .ensures) (not-true _ (c .if1 .taken))
 
--- src/merge.rt:42:5
 get-hdr-chunk-size-requires : tie.Need-get-hdr-chunk-size-requires
 get-hdr-chunk-size-requires c κs = search needs
 
--- src/merge.rt:35:1
 returns-2 : tie.Need-returns-2
 returns-2 c = right-some _ _ _ _ (c .before .before .is-this-free .ensures) (not-false _ (c .before .if1 .left)) (c .get-hdr-chunk-size .ensures)
 

@@ -1,20 +1,15 @@
+-- `heap::split::portion_of` meets its contract: 12 bytes remain exactly where z + 12 is at most n.
 use borrow.Author.Needs.{needs}
 use Rattle.heap.proofs.Joins.{portion-whole, portion-cut}
 use Rattle.heap.proofs.split.portion_of.Statement.{statement}
 use Rattle.heap.proofs.split.portion_of.Tie as tie
-use Rattle.heap.proofs.split.portion_of.Reads as reads
-use Rattle.heap.proofs.split.portion_of.Lts as lts
-use Rattle.heap.proofs.record.less.Reads as less-reads
 
--- src/split.rt:46:9
 less-requires : tie.Need-less-requires
 less-requires c κs = search needs
 
--- src/split.rt:43:1
 returns : tie.Need-returns
 returns c = portion-whole _ _ _ (c .before .less .ensures) (c .if1 .taken)
 
--- src/split.rt:43:1
 returns-2 : tie.Need-returns-2
 returns-2 c = portion-cut _ _ _ (c .before .less .ensures) (c .if1 .left)
 

@@ -1,52 +1,38 @@
+-- `heap::record::Record::hand_out` meets its contract: a law for each test, in document 01's order, and for the request served.
 use borrow.Author.Needs.{needs}
 use mathlib.Core.Path.{refl}
 use borrow.Author.Tests.{not-true, not-false}
 use Rattle.heap.proofs.Answers.{hand-zero, hand-large, hand-damaged, rounded-served, hand-served}
 use Rattle.heap.proofs.record.Record.hand_out.Statement.{statement}
 use Rattle.heap.proofs.record.Record.hand_out.Tie as tie
-use Rattle.heap.proofs.record.Record.hand_out.Reads as reads
-use Rattle.heap.proofs.record.Record.hand_out.Lts as lts
-use Rattle.heap.proofs.record.Record.audit.Reads as audit-reads
-use Rattle.heap.proofs.record.Record.serve.Reads as serve-reads
-use Rattle.words.proofs.rounded_size.Reads as rounded-size-reads
 
--- src/calls.rt:76:13
 returns : tie.Need-returns
 returns c = hand-zero (c .before .before .args .self) (c .before .before .args .heap .now) _ (c .if1 .taken)
 
--- src/calls.rt:79:13
 returns-2 : tie.Need-returns-2
 returns-2 c = hand-large (c .before .before .before .args .self) (c .before .before .before .args .heap .now) _ (c .before .if1 .left) (c .if2 .taken)
 
--- src/calls.rt:81:13
 audit-requires : tie.Need-audit-requires
 audit-requires c κs = search needs
 
--- src/calls.rt:83:13
 same-length : tie.Need-same-length
 same-length c = search needs
 
--- src/calls.rt:83:13
 returns-3 : tie.Need-returns-3
 returns-3 c = hand-damaged (c .before .before .before .before .before .before .args .self) (c .before .before .before .before .before .before .args .heap .now) _ _ (c .before .before .before .before .if1 .left) (c .before .before .before .if2 .left) (c .before .audit .ensures) (not-true _ (c .if3 .taken))
 
--- src/calls.rt:85:17
 rounded-size-requires : tie.Need-rounded-size-requires
 rounded-size-requires c κs = search needs
 
--- src/calls.rt:85:17
 cast-z : tie.Need-cast-z
 cast-z c = search needs
 
--- src/calls.rt:86:9
 serve-requires : tie.Need-serve-requires
 serve-requires c κs = rounded-served (c .before .before .before .before .before .before .before .before .args .self) (c .before .before .before .before .before .before .before .before .args .heap .now) _ _ _ (c .before .before .before .audit .ensures) (not-false _ (c .before .before .if3 .left)) (c .before .rounded-size .ensures)
 
--- src/calls.rt:72:5
 same-length-2 : tie.Need-same-length-2
 same-length-2 c = search needs
 
--- src/calls.rt:72:5
 returns-4 : tie.Need-returns-4
 returns-4 c = hand-served (c .before .before .before .before .before .before .before .before .before .before .before .args .self) (c .before .before .before .before .before .before .before .before .before .before .before .args .heap .now) _ _ _ _ _ (c .before .before .before .before .before .before .before .before .before .if1 .left) (c .before .before .before .before .before .before .before .before .if2 .left) (c .before .before .before .before .before .before .audit .ensures) (not-false _ (c .before .before .before .before .before .if3 .left)) (c .before .before .before .before .rounded-size .ensures) refl (c .before .before .serve .ensures)
 

@@ -1,55 +1,40 @@
+-- `heap::record::Record::make` meets its contract: a law for each refused length, and one for the heap made.
 use borrow.Author.Needs.{needs}
 use mathlib.Core.Path.{refl}
 use Rattle.heap.proofs.Answers.{make-short, make-long, make-even, make-done}
 use Rattle.heap.proofs.record.Record.make.Statement.{statement}
 use Rattle.heap.proofs.record.Record.make.Tie as tie
-use Rattle.heap.proofs.record.Record.make.Reads as reads
-use Rattle.heap.proofs.record.Record.make.Lts as lts
-use Rattle.heap.proofs.record.Record.empty.Reads as empty-reads
-use Rattle.heap.proofs.record.Record.of_words.Reads as of-words-reads
-use Rattle.heap.proofs.record.Record.one_chunk.Reads as one-chunk-reads
 
--- src/calls.rt:59:58
 empty-requires : tie.Need-empty-requires
 empty-requires c κs = search needs
 
--- src/calls.rt:59:13
 returns : tie.Need-returns
 returns c = rw (c .empty .ensures) (make-short _ (c .before .if1 .taken))
 
--- src/calls.rt:62:58
 empty-requires-2 : tie.Need-empty-requires-2
 empty-requires-2 c κs = search needs
 
--- src/calls.rt:62:13
 returns-2 : tie.Need-returns-2
 returns-2 c = rw (c .empty2 .ensures) (make-long _ (c .before .if2 .taken))
 
--- src/calls.rt:65:58
 empty-requires-3 : tie.Need-empty-requires-3
 empty-requires-3 c κs = search needs
 
--- src/calls.rt:65:13
 returns-3 : tie.Need-returns-3
 returns-3 c = rw (c .empty3 .ensures) (make-even _ (c .before .before .before .if1 .left) (c .before .before .if2 .left) (c .before .if3 .taken))
 
--- src/calls.rt:67:36
 cast-of-words : tie.Need-cast-of-words
 cast-of-words c = search needs
 
--- src/calls.rt:67:19
 of-words-requires : tie.Need-of-words-requires
 of-words-requires c κs = search needs
 
--- src/calls.rt:67:13
 one-chunk-requires : tie.Need-one-chunk-requires
 one-chunk-requires c κs = search needs
 
--- src/calls.rt:54:5
 same-length : tie.Need-same-length
 same-length c = search needs
 
--- src/calls.rt:54:5
 returns-4 : tie.Need-returns-4
 returns-4 c = make-done (c .before .before .before .before .of-words .result) (c .before .before .one-chunk .result) (c .before .before .before .before .before .before .before .before .before .args .heap .now) _ _ refl (c .before .before .before .before .before .before .before .if1 .left) (c .before .before .before .before .before .before .if2 .left) (c .before .before .before .before .before .if3 .left) (c .before .before .before .before .of-words .ensures) (c .before .before .one-chunk .ensures)
 

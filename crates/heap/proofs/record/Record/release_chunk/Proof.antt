@@ -1,3 +1,4 @@
+-- `heap::record::Record::release_chunk` meets its contract (`release-by`): merged, tagged, listed; its sums are in range by `Releasable` (`release-room`).
 use borrow.Author.Needs.{needs}
 use mathlib.Core.Path.{refl}
 use native.Mathlib.Omega.{arith}
@@ -6,95 +7,65 @@ use Rattle.words.proofs.Laws.Sizes.{class-below}
 use Rattle.heap.proofs.Joins.{release-room, release-by}
 use Rattle.heap.proofs.record.Record.release_chunk.Statement.{statement}
 use Rattle.heap.proofs.record.Record.release_chunk.Tie as tie
-use Rattle.heap.proofs.record.Record.release_chunk.Reads as reads
-use Rattle.heap.proofs.record.Record.release_chunk.Lts as lts
-use Rattle.heap.proofs.merge.left_free.Reads as left-free-reads
-use Rattle.heap.proofs.merge.right_free.Reads as right-free-reads
-use Rattle.heap.proofs.merge.set_free_chunk_hdr_ftr.Reads as set-free-chunk-hdr-ftr-reads
-use Rattle.heap.proofs.record.Record.link_chunk.Reads as link-chunk-reads
-use Rattle.heap.proofs.record.Record.merge_neighbor_if_possible.Reads as merge-neighbor-if-possible-reads
-use Rattle.words.proofs.hdr_to_link.Reads as hdr-to-link-reads
-use Rattle.words.proofs.link_to_hdr.Reads as link-to-hdr-reads
-use Rattle.words.proofs.chunk_size_to_list_index.Reads as chunk-size-to-list-index-reads
-use Rattle.words.proofs.hdr_to_left_hdr.Reads as hdr-to-left-hdr-reads
-use Rattle.words.proofs.hdr_to_right_hdr.Reads as hdr-to-right-hdr-reads
-use Rattle.words.proofs.set_left_free.Reads as set-left-free-reads
 
--- src/merge.rt:86:13
 link-to-hdr-requires : tie.Need-link-to-hdr-requires
 link-to-hdr-requires c κs = search needs
 
--- src/merge.rt:87:13
 hdr-to-right-hdr-requires : tie.Need-hdr-to-right-hdr-requires
 hdr-to-right-hdr-requires c κs = search needs
 
--- src/merge.rt:88:13
 left-free-requires : tie.Need-left-free-requires
 left-free-requires c κs = search needs
 
--- src/merge.rt:89:13
 right-free-requires : tie.Need-right-free-requires
 right-free-requires c κs = search needs
 
--- src/merge.rt:90:13
 hdr-to-left-hdr-requires : tie.Need-hdr-to-left-hdr-requires
 hdr-to-left-hdr-requires c κs = search needs
 
--- src/merge.rt:91:27
 add-m : tie.Need-add-m
-add-m c = 
+add-m c =
     let below : c .before .before .before .before .before .before .before .before .args .l .0 < 65536 = omega (arith, c .before .before .before .before .before .before .before .before .good) in
     let room = release-room _ _ _ _ _ _ _ (c .before .before .before .before .before .before .before .before .pre) below (c .before .before .before .before .before .before .before .before .fits .n .fits) (c .before .before .before .before .before .before .link-to-hdr .ensures) (c .before .before .before .before .before .hdr-to-right-hdr .ensures) (c .before .before .before .left-free .ensures) (c .before .right-free .ensures) in
     omega (arith, c .before .before .before .before .before .before .link-to-hdr .ensures)
 
--- src/merge.rt:91:17
 add-m-2 : tie.Need-add-m-2
-add-m-2 c = 
+add-m-2 c =
     let below : c .before .before .before .before .before .before .before .before .args .l .0 < 65536 = omega (arith, c .before .before .before .before .before .before .before .before .good) in
     let room = release-room _ _ _ _ _ _ _ (c .before .before .before .before .before .before .before .before .pre) below (c .before .before .before .before .before .before .before .before .fits .n .fits) (c .before .before .before .before .before .before .link-to-hdr .ensures) (c .before .before .before .before .before .hdr-to-right-hdr .ensures) (c .before .before .before .left-free .ensures) (c .before .right-free .ensures) in
     omega (arith, c .before .before .before .before .before .before .link-to-hdr .ensures)
 
--- src/merge.rt:92:13
 hdr-to-link-requires : tie.Need-hdr-to-link-requires
 hdr-to-link-requires c κs = search needs
 
--- src/merge.rt:95:80
 hdr-to-link-requires-2 : tie.Need-hdr-to-link-requires-2
 hdr-to-link-requires-2 c κs = search needs
 
--- src/merge.rt:95:13
 merge-neighbor-if-possible-requires : tie.Need-merge-neighbor-if-possible-requires
 merge-neighbor-if-possible-requires c κs = search needs
 
--- src/merge.rt:96:9
 set-free-chunk-hdr-ftr-requires : tie.Need-set-free-chunk-hdr-ftr-requires
 set-free-chunk-hdr-ftr-requires c κs = omega (arith, c .before .before .before .before .before .before .before .before .before .before .before .before .before .before .before .good, c .before .before .before .before .before .before .before .before .before .before .before .before .before .link-to-hdr .ensures, c .before .before .before .before .before .before .before .hdr-to-left-hdr .ensures)
 
--- src/merge.rt:97:36
 hdr-to-right-hdr-requires-2 : tie.Need-hdr-to-right-hdr-requires-2
 hdr-to-right-hdr-requires-2 c κs = search needs
 
--- src/merge.rt:97:9
 set-left-free-requires : tie.Need-set-left-free-requires
 set-left-free-requires c κs = search needs
 
--- src/merge.rt:98:13
 chunk-size-to-list-index-requires : tie.Need-chunk-size-to-list-index-requires
 chunk-size-to-list-index-requires c κs = search needs
 
--- src/merge.rt:99:9
 link-chunk-requires : tie.Need-link-chunk-requires
-link-chunk-requires c κs = 
+link-chunk-requires c κs =
     let class = class-below (c .before .before .before .before .before .before .before .before .before .before .before .before .before .before .before .before .before .before .before .before .left-free .result + (c .before .before .before .before .before .before .before .before .before .before .before .before .before .before .before .before .before .before .before .before .before .before .before .before .before .args .n + c .before .before .before .before .before .before .before .before .before .before .before .before .before .before .before .before .before .before .right-free .result)) in
     (omega (arith, c .before .chunk-size-to-list-index .ensures), omega (arith, c .before .before .before .before .before .before .before .before .before .before .before .before .before .before .before .before .before .before .before .before .before .before .before .before .before .good, c .before .before .before .before .before .before .before .before .before .before .before .before .before .before .before .before .before .before .before .before .before .before .before .link-to-hdr .ensures, c .before .before .before .before .before .before .before .before .before .before .before .before .before .before .before .before .before .hdr-to-left-hdr .ensures, c .before .before .before .before .before .before .before .before .before .before .before .before .before .before .before .before .hdr-to-link .ensures))
 
--- src/merge.rt:82:5
 same-length : tie.Need-same-length
 same-length c = search needs
 
--- src/merge.rt:82:5
 returns : tie.Need-returns
-returns c = 
+returns c =
     let below : c .before .before .before .before .before .before .before .before .before .before .before .before .before .before .before .before .before .before .before .before .before .before .before .before .before .before .before .before .args .l .0 < 65536 = omega (arith, c .before .before .before .before .before .before .before .before .before .before .before .before .before .before .before .before .before .before .before .before .before .before .before .before .before .before .before .before .good) in
     let room = release-room _ _ _ _ _ _ _ (c .before .before .before .before .before .before .before .before .before .before .before .before .before .before .before .before .before .before .before .before .before .before .before .before .before .before .before .before .pre) below (c .before .before .before .before .before .before .before .before .before .before .before .before .before .before .before .before .before .before .before .before .before .before .before .before .before .before .before .before .fits .n .fits) (c .before .before .before .before .before .before .before .before .before .before .before .before .before .before .before .before .before .before .before .before .before .before .before .before .before .before .link-to-hdr .ensures) (c .before .before .before .before .before .before .before .before .before .before .before .before .before .before .before .before .before .before .before .before .before .before .before .before .before .hdr-to-right-hdr .ensures) (c .before .before .before .before .before .before .before .before .before .before .before .before .before .before .before .before .before .before .before .before .before .before .before .left-free .ensures) (c .before .before .before .before .before .before .before .before .before .before .before .before .before .before .before .before .before .before .before .before .before .right-free .ensures) in
     let sum : c .before .before .before .before .before .before .before .before .before .before .before .before .before .before .before .before .before .before .before .before .before .before .before .left-free .result + (c .before .before .before .before .before .before .before .before .before .before .before .before .before .before .before .before .before .before .before .before .before .before .before .before .before .before .before .before .args .n + c .before .before .before .before .before .before .before .before .before .before .before .before .before .before .before .before .before .before .before .before .before .right-free .result) < 2 ^ 32 = omega (arith, c .before .before .before .before .before .before .before .before .before .before .before .before .before .before .before .before .before .before .before .before .before .before .before .before .before .before .link-to-hdr .ensures) in

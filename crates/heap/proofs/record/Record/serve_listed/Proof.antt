@@ -1,3 +1,4 @@
+-- `heap::record::Record::serve_listed` meets its contract: a law for each answer of the search; soundness keeps the counts and sums in range (`take-safe`).
 use borrow.Author.Needs.{needs}
 use mathlib.Core.Path.{refl, sym, ap, _∙_}
 use native.Mathlib.Omega.{arith}
@@ -8,105 +9,74 @@ use Rattle.heap.proofs.Walks.{first-fit-is}
 use Rattle.heap.proofs.Answers.{nowhere-safe, take-safe, portion-room, in-use-kept, listed-lost, listed-nowhere, listed-hit}
 use Rattle.heap.proofs.record.Record.serve_listed.Statement.{statement}
 use Rattle.heap.proofs.record.Record.serve_listed.Tie as tie
-use Rattle.heap.proofs.record.Record.serve_listed.Reads as reads
-use Rattle.heap.proofs.record.Record.serve_listed.Lts as lts
-use Rattle.heap.proofs.record.Record.count_in.Reads as count-in-reads
-use Rattle.heap.proofs.record.Record.take_chunk.Reads as take-chunk-reads
-use Rattle.heap.proofs.search.search_first_fit.Reads as search-first-fit-reads
-use Rattle.heap.proofs.split.portion_of.Reads as portion-of-reads
-use Rattle.words.proofs.hdr_to_offset.Reads as hdr-to-offset-reads
-use Rattle.words.proofs.hdr_to_payload.Reads as hdr-to-payload-reads
-use Rattle.words.proofs.link_to_hdr.Reads as link-to-hdr-reads
-use Rattle.words.proofs.get_hdr_chunk_size.Reads as get-hdr-chunk-size-reads
-use Rattle.words.proofs.hdr_to_right_hdr.Reads as hdr-to-right-hdr-reads
 
--- src/calls.rt:183:13
 search-first-fit-requires : tie.Need-search-first-fit-requires
 search-first-fit-requires c κs = search needs
 
--- src/calls.rt:185:42
 enum-told : tie.Need-enum-told
 enum-told c = search needs
 
--- src/calls.rt:186:28
 enum-known-found : tie.Need-enum-known-found
 enum-known-found c = search needs
 
--- src/calls.rt:186:62
 cast-t19 : tie.Need-cast-t19
-cast-t19 c = 
+cast-t19 c =
     let few = nowhere-safe (c .before .before .before .before .before .before .before .args .self) (c .before .before .before .before .before .before .before .args .heap .now) (c .before .before .before .before .before .before .before .args .z) (c .before .before .before .before .before .before .before .pre) _ (sym (ap (λ (q : Found). told q) (c .before .found .given .1)) ∙ c .before .before .before .search-first-fit .ensures ∙ sym (first-fit-is soundAt (c .before .before .before .before .before .before .before .args .self) (c .before .before .before .before .before .before .before .args .heap .now) (c .before .before .before .before .before .before .before .args .z))) in
     record { fits = omega arith }
 
--- src/calls.rt:187:23
 enum-known-found-2 : tie.Need-enum-known-found-2
 enum-known-found-2 c = search needs
 
--- src/calls.rt:188:21
 link-to-hdr-requires : tie.Need-link-to-hdr-requires
 link-to-hdr-requires c κs = search needs
 
--- src/calls.rt:189:21
 get-hdr-chunk-size-requires : tie.Need-get-hdr-chunk-size-requires
 get-hdr-chunk-size-requires c κs = search needs
 
--- src/calls.rt:190:21
 portion-of-requires : tie.Need-portion-of-requires
 portion-of-requires c κs = search needs
 
--- src/calls.rt:191:21
 take-chunk-requires : tie.Need-take-chunk-requires
-take-chunk-requires c κs = 
+take-chunk-requires c κs =
     let safe = take-safe (c .before .before .before .before .before .before .before .before .before .before .before .before .args .self) (c .before .before .before .before .before .before .before .before .before .before .before .before .args .heap .now) (c .before .before .before .before .before .before .before .before .before .before .before .before .args .z) (c .before .before .before .before .before .before .before .before .before .before .before .before .pre) _ _ _ _ (sym (ap (λ (q : Found). told q) (c .before .before .before .before .before .before .found2 .given .1)) ∙ c .before .before .before .before .before .before .before .before .search-first-fit .ensures ∙ sym (first-fit-is soundAt (c .before .before .before .before .before .before .before .before .before .before .before .before .args .self) (c .before .before .before .before .before .before .before .before .before .before .before .before .args .heap .now) (c .before .before .before .before .before .before .before .before .before .before .before .before .args .z))) (c .before .before .before .before .link-to-hdr .ensures) (c .before .before .get-hdr-chunk-size .ensures) in
     (safe .0, safe .1)
 
--- src/calls.rt:192:48
 hdr-to-right-hdr-requires : tie.Need-hdr-to-right-hdr-requires
 hdr-to-right-hdr-requires c κs = search needs
 
--- src/calls.rt:192:21
 hdr-to-offset-requires : tie.Need-hdr-to-offset-requires
 hdr-to-offset-requires c κs = search needs
 
--- src/calls.rt:193:21
 count-in-requires : tie.Need-count-in-requires
-count-in-requires c κs = 
+count-in-requires c κs =
     let safe = take-safe (c .before .before .before .before .before .before .before .before .before .before .before .before .before .before .before .before .before .args .self) (c .before .before .before .before .before .before .before .before .before .before .before .before .before .before .before .before .before .args .heap .now) (c .before .before .before .before .before .before .before .before .before .before .before .before .before .before .before .before .before .args .z) (c .before .before .before .before .before .before .before .before .before .before .before .before .before .before .before .before .before .pre) _ _ _ _ (sym (ap (λ (q : Found). told q) (c .before .before .before .before .before .before .before .before .before .before .before .found2 .given .1)) ∙ c .before .before .before .before .before .before .before .before .before .before .before .before .before .search-first-fit .ensures ∙ sym (first-fit-is soundAt (c .before .before .before .before .before .before .before .before .before .before .before .before .before .before .before .before .before .args .self) (c .before .before .before .before .before .before .before .before .before .before .before .before .before .before .before .before .before .args .heap .now) (c .before .before .before .before .before .before .before .before .before .before .before .before .before .before .before .before .before .args .z))) (c .before .before .before .before .before .before .before .before .before .link-to-hdr .ensures) (c .before .before .before .before .before .before .before .get-hdr-chunk-size .ensures) in
     let part = portion-room (c .before .before .before .before .before .before .before .before .before .before .before .before .before .before .before .before .before .args .self) (c .before .before .before .before .before .before .before .before .before .before .before .before .before .before .before .before .before .args .heap .now) (c .before .before .before .before .before .before .before .before .before .before .before .before .before .before .before .before .before .args .z) (c .before .before .before .before .before .before .before .before .before .before .before .before .before .before .before .before .before .pre) _ _ (c .before .before .before .before .before .before .portion-of .ensures) in
     let kept = in-use-kept (c .before .before .before .before .before .before .before .before .before .before .before .before .before .before .before .before .before .args .self) (c .before .before .before .before .take-chunk .result) _ _ _ _ _ (c .before .before .before .before .take-chunk .ensures) in
     omega (arith, safe .2, part, kept)
 
--- src/calls.rt:194:44
 hdr-to-payload-requires : tie.Need-hdr-to-payload-requires
 hdr-to-payload-requires c κs = search needs
 
--- src/calls.rt:194:72
 cast-t27 : tie.Need-cast-t27
-cast-t27 c = 
+cast-t27 c =
     let safe = take-safe (c .before .before .before .before .before .before .before .before .before .before .before .before .before .before .before .before .before .before .before .args .self) (c .before .before .before .before .before .before .before .before .before .before .before .before .before .before .before .before .before .before .before .args .heap .now) (c .before .before .before .before .before .before .before .before .before .before .before .before .before .before .before .before .before .before .before .args .z) (c .before .before .before .before .before .before .before .before .before .before .before .before .before .before .before .before .before .before .before .pre) _ _ _ _ (sym (ap (λ (q : Found). told q) (c .before .before .before .before .before .before .before .before .before .before .before .before .before .found2 .given .1)) ∙ c .before .before .before .before .before .before .before .before .before .before .before .before .before .before .before .search-first-fit .ensures ∙ sym (first-fit-is soundAt (c .before .before .before .before .before .before .before .before .before .before .before .before .before .before .before .before .before .before .before .args .self) (c .before .before .before .before .before .before .before .before .before .before .before .before .before .before .before .before .before .before .before .args .heap .now) (c .before .before .before .before .before .before .before .before .before .before .before .before .before .before .before .before .before .before .before .args .z))) (c .before .before .before .before .before .before .before .before .before .before .before .link-to-hdr .ensures) (c .before .before .before .before .before .before .before .before .before .get-hdr-chunk-size .ensures) in
     record { fits = omega (arith, safe .3) }
 
--- src/calls.rt:178:5
 same-length : tie.Need-same-length
 same-length c = search needs
 
--- src/calls.rt:178:5
 returns : tie.Need-returns
 returns c = listed-lost (c .before .before .before .before .before .before .args .self) (c .before .before .before .before .before .before .args .heap .now) (c .before .before .before .before .before .before .args .z) (c .before .before .before .before .before .before .pre) (sym (ap (λ (q : Found). told q) (c .enum-told .given .1)) ∙ c .before .before .search-first-fit .ensures ∙ sym (first-fit-is soundAt (c .before .before .before .before .before .before .args .self) (c .before .before .before .before .before .before .args .heap .now) (c .before .before .before .before .before .before .args .z)))
 
--- src/calls.rt:178:5
 same-length-2 : tie.Need-same-length-2
 same-length-2 c = search needs
 
--- src/calls.rt:178:5
 returns-2 : tie.Need-returns-2
 returns-2 c = listed-nowhere (c .before .before .before .before .before .before .before .args .self) (c .before .before .before .before .before .before .before .args .heap .now) (c .before .before .before .before .before .before .before .args .z) (c .before .before .before .before .before .before .before .pre) _ _ refl (sym (ap (λ (q : Found). told q) (c .before .found .given .1)) ∙ c .before .before .before .search-first-fit .ensures ∙ sym (first-fit-is soundAt (c .before .before .before .before .before .before .before .args .self) (c .before .before .before .before .before .before .before .args .heap .now) (c .before .before .before .before .before .before .before .args .z)))
 
--- src/calls.rt:178:5
 same-length-3 : tie.Need-same-length-3
 same-length-3 c = search needs
 
--- src/calls.rt:178:5
 returns-3 : tie.Need-returns-3
 returns-3 c = listed-hit (c .before .before .before .before .before .before .before .before .before .before .before .before .before .before .before .before .before .before .before .args .self) (c .before .before .before .before .before .before .before .before .before .before .before .before .before .before .before .before .before .before .before .args .heap .now) (c .before .before .before .before .before .before .before .before .before .before .before .before .before .before .before .before .before .before .before .args .z) (c .before .before .before .before .before .before .before .before .before .before .before .before .before .before .before .before .before .before .before .pre) (c .before .before .before .before .before .before .take-chunk .result) (c .before .count-in .result) _ _ _ _ _ _ _ _ _ _ (sym (ap (λ (q : Found). told q) (c .before .before .before .before .before .before .before .before .before .before .before .before .before .found2 .given .1)) ∙ c .before .before .before .before .before .before .before .before .before .before .before .before .before .before .before .search-first-fit .ensures ∙ sym (first-fit-is soundAt (c .before .before .before .before .before .before .before .before .before .before .before .before .before .before .before .before .before .before .before .args .self) (c .before .before .before .before .before .before .before .before .before .before .before .before .before .before .before .before .before .before .before .args .heap .now) (c .before .before .before .before .before .before .before .before .before .before .before .before .before .before .before .before .before .before .before .args .z))) (c .before .before .before .before .before .before .before .before .before .before .before .link-to-hdr .ensures) (c .before .before .before .before .before .before .before .before .before .get-hdr-chunk-size .ensures)
     (c .before .before .before .before .before .before .before .before .portion-of .ensures) (c .before .before .before .before .before .before .take-chunk .ensures) (c .before .before .before .hdr-to-right-hdr .ensures) (c .before .before .hdr-to-offset .ensures) (c .before .count-in .ensures) (c .hdr-to-payload .ensures) refl

@@ -1,27 +1,21 @@
+-- `heap::record::Record::set_sentinel_prev` meets its contract: as `set_sentinel_next`, on the other array.
 use borrow.Author.Needs.{needs}
 use Rattle.heap.proofs.Joins.{stored-sentinel, stored-chunk}
 use Rattle.heap.proofs.record.Record.set_sentinel_prev.Statement.{statement}
 use Rattle.heap.proofs.record.Record.set_sentinel_prev.Tie as tie
-use Rattle.heap.proofs.record.Record.set_sentinel_prev.Reads as reads
-use Rattle.heap.proofs.record.Record.set_sentinel_prev.Lts as lts
 
--- src/record.rt:127:17
 cast-k : tie.Need-cast-k
 cast-k c = search needs
 
--- src/record.rt:129:13
 mul-to : tie.Need-mul-to
 mul-to c = search needs
 
--- src/record.rt:129:13
 element-set-from-to : tie.Need-element-set-from-to
 element-set-from-to c = search needs
 
--- src/record.rt:124:5
 returns : tie.Need-returns
 returns c = rw (stored-sentinel _ _ _ (c .if1 .taken))
 
--- src/record.rt:124:5
 returns-2 : tie.Need-returns-2
 returns-2 c = rw (stored-chunk _ _ _ (c .if1 .left))
 

@@ -1,45 +1,31 @@
+-- `heap::record::Record::settle` meets its contract: cached at once, or after the older chunk's release, whose sums soundness keeps in range (`settle-safe`).
 use borrow.Author.Needs.{needs}
 use native.Mathlib.Omega.{arith}
 use Rattle.heap.proofs.Answers.{settled-first, settle-safe, settled-next}
 use Rattle.heap.proofs.record.Record.settle.Statement.{statement}
 use Rattle.heap.proofs.record.Record.settle.Tie as tie
-use Rattle.heap.proofs.record.Record.settle.Reads as reads
-use Rattle.heap.proofs.record.Record.settle.Lts as lts
-use Rattle.heap.proofs.record.Record.count_out.Reads as count-out-reads
-use Rattle.heap.proofs.record.Record.release_chunk.Reads as release-chunk-reads
-use Rattle.heap.proofs.record.Record.with_cached.Reads as with-cached-reads
-use Rattle.words.proofs.link_to_hdr.Reads as link-to-hdr-reads
-use Rattle.words.proofs.get_hdr_chunk_size.Reads as get-hdr-chunk-size-reads
 
--- src/calls.rt:142:13
 with-cached-requires : tie.Need-with-cached-requires
 with-cached-requires c κs = search needs
 
--- src/calls.rt:142:13
 returns : tie.Need-returns
 returns c = settled-first (c .before .before .before .before .before .args .self) (c .before .before .before .before .before .args .heap .now) (c .before .before .before .before .before .args .l) (c .with-cached .result) (c .before .if1 .taken) (λ q. omega (arith, c .before .before .before .before .before .pre .1, q)) (c .with-cached .ensures)
 
--- src/calls.rt:144:49
 link-to-hdr-requires : tie.Need-link-to-hdr-requires
 link-to-hdr-requires c κs = search needs
 
--- src/calls.rt:144:13
 get-hdr-chunk-size-requires : tie.Need-get-hdr-chunk-size-requires
 get-hdr-chunk-size-requires c κs = search needs
 
--- src/calls.rt:145:13
 release-chunk-requires : tie.Need-release-chunk-requires
 release-chunk-requires c κs = settle-safe (c .before .before .before .before .before .before .before .before .args .self) (c .before .before .before .before .before .before .before .before .args .heap .now) (c .before .before .before .before .before .before .before .before .args .l) _ _ (c .before .before .before .before .before .before .before .before .pre .0) (c .before .before .before .before .if1 .left) (c .before .before .link-to-hdr .ensures) (c .before .get-hdr-chunk-size .ensures)
 
--- src/calls.rt:146:9
 count-out-requires : tie.Need-count-out-requires
 count-out-requires c κs = search needs
 
--- src/calls.rt:136:5
 same-length : tie.Need-same-length
 same-length c = search needs
 
--- src/calls.rt:136:5
 returns-2 : tie.Need-returns-2
 returns-2 c = settled-next (c .before .before .before .before .before .before .before .before .before .before .before .before .args .self) (c .before .before .before .before .before .before .before .before .before .before .before .before .args .heap .now) (c .before .before .before .before .before .before .before .before .before .before .before .before .args .l) (c .before .before .before .release-chunk .result) (c .count-out .result) _ _ _ (c .before .before .before .before .before .before .before .before .if1 .left) (λ q. omega (arith, c .before .before .before .before .before .before .before .before .before .before .before .before .pre .1, q)) (c .before .before .before .before .before .before .link-to-hdr .ensures) (c .before .before .before .before .before .get-hdr-chunk-size .ensures)
     (c .before .before .before .release-chunk .ensures) (c .count-out .ensures)

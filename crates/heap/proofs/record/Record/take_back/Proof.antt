@@ -1,3 +1,4 @@
+-- `heap::record::Record::take_back` meets its contract: a law for each test, and for the chunk taken back, whose link fits (`live-name`).
 use borrow.Author.Needs.{needs}
 use mathlib.Core.Path.{sym, _∙_}
 use native.Mathlib.Omega.{arith}
@@ -5,59 +6,41 @@ use borrow.Author.Tests.{not-true, not-false}
 use Rattle.heap.proofs.Answers.{back-damaged, back-dead, live-name, back-done}
 use Rattle.heap.proofs.record.Record.take_back.Statement.{statement}
 use Rattle.heap.proofs.record.Record.take_back.Tie as tie
-use Rattle.heap.proofs.record.Record.take_back.Reads as reads
-use Rattle.heap.proofs.record.Record.take_back.Lts as lts
-use Rattle.heap.proofs.record.Record.audit.Reads as audit-reads
-use Rattle.heap.proofs.record.Record.live_length.Reads as live-length-reads
-use Rattle.heap.proofs.record.Record.settle.Reads as settle-reads
-use Rattle.words.proofs.hdr_to_link.Reads as hdr-to-link-reads
-use Rattle.words.proofs.payload_to_hdr.Reads as payload-to-hdr-reads
 
--- src/calls.rt:93:13
 audit-requires : tie.Need-audit-requires
 audit-requires c κs = search needs
 
--- src/calls.rt:95:13
 same-length : tie.Need-same-length
 same-length c = search needs
 
--- src/calls.rt:95:13
 returns : tie.Need-returns
 returns c = back-damaged (c .before .before .before .before .args .self) (c .before .before .before .before .args .heap .now) _ _ (c .before .audit .ensures) (not-true _ (c .if1 .taken))
 
--- src/calls.rt:97:13
 live-length-requires : tie.Need-live-length-requires
 live-length-requires c κs = search needs
 
--- src/calls.rt:99:13
 same-length-2 : tie.Need-same-length-2
 same-length-2 c = search needs
 
--- src/calls.rt:99:13
 returns-2 : tie.Need-returns-2
 returns-2 c = back-dead (c .before .before .before .before .before .before .before .args .self) (c .before .before .before .before .before .before .before .args .heap .now) _ _ _ (c .before .before .before .before .audit .ensures) (not-false _ (c .before .before .before .if1 .left)) (c .before .live-length .ensures) (c .if2 .taken)
 
--- src/calls.rt:101:36
 payload-to-hdr-requires : tie.Need-payload-to-hdr-requires
 payload-to-hdr-requires c κs = search needs
 
--- src/calls.rt:101:13
 hdr-to-link-requires : tie.Need-hdr-to-link-requires
 hdr-to-link-requires c κs = search needs
 
--- src/calls.rt:102:13
 settle-requires : tie.Need-settle-requires
-settle-requires c κs = 
+settle-requires c κs =
     let name = live-name (c .before .before .before .before .before .before .before .before .before .before .args .self) (c .before .before .before .before .before .before .before .before .before .before .args .heap .now) _ _ _ _ _ (c .before .before .before .before .before .before .before .audit .ensures) (not-false _ (c .before .before .before .before .before .before .if1 .left)) (c .before .before .before .before .live-length .ensures) (c .before .before .before .if2 .left) (c .before .before .payload-to-hdr .ensures) (c .before .hdr-to-link .ensures) in
     (sym (c .before .before .before .before .before .before .before .audit .ensures) ∙ not-false _ (c .before .before .before .before .before .before .if1 .left), omega arith)
 
--- src/calls.rt:90:5
 same-length-3 : tie.Need-same-length-3
 same-length-3 c = search needs
 
--- src/calls.rt:90:5
 returns-3 : tie.Need-returns-3
-returns-3 c = 
+returns-3 c =
     let name = live-name (c .before .before .before .before .before .before .before .before .before .before .before .before .before .args .self) (c .before .before .before .before .before .before .before .before .before .before .before .before .before .args .heap .now) _ _ _ _ _ (c .before .before .before .before .before .before .before .before .before .before .audit .ensures) (not-false _ (c .before .before .before .before .before .before .before .before .before .if1 .left)) (c .before .before .before .before .before .before .before .live-length .ensures) (c .before .before .before .before .before .before .if2 .left) (c .before .before .before .before .before .payload-to-hdr .ensures) (c .before .before .before .before .hdr-to-link .ensures) in
     back-done (c .before .before .before .before .before .before .before .before .before .before .before .before .before .args .self) (c .before .before .before .before .before .before .before .before .before .before .before .before .before .args .heap .now) (c .before .before .settle .result) _ _ _ _ _ (c .before .before .before .before .before .before .before .before .before .before .audit .ensures) (not-false _ (c .before .before .before .before .before .before .before .before .before .if1 .left)) (c .before .before .before .before .before .before .before .live-length .ensures) (c .before .before .before .before .before .before .if2 .left) name (c .before .before .settle .ensures)
 

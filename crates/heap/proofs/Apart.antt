@@ -1,0 +1,102 @@
+-- Nothing of an outcome is lost when it is seen: two records, words and answers that are seen alike are the same. Assumes nothing.
+--     seen-same       record and words
+--     outcome-same    answer, record and words
+use mathlib.Core.Path.{_≡_, refl, sym, ap, _∙_}
+use mathlib.Core.Bool.{Bool, true, false}
+use mathlib.Core.List.{List, [], _∷_}
+use Prim.Native.Nat.{ℕ, zero, suc}
+use native.Mathlib.Omega.{arith}
+use native.Mathlib.Decide.{ℕ-discrete}
+use borrow.Author.Tests.{eq-eqb, ne-eqb}
+use lib.Dec.{eqb}
+use Rattle.words.specs.declared.names.Link.{Link}
+use Rattle.words.specs.Choice.{pick}
+use Rattle.words.specs.Numbers.{numbers}
+use Rattle.audit.specs.Shown.{cachedOf}
+use Rattle.rules.specs.Rules.{Figures, Outcome}
+use Rattle.rules.specs.Making.{State}
+use Rattle.heap.specs.declared.record.Record.{Record}
+use Rattle.heap.specs.declared.calls.Answer.{Answer}
+use Rattle.heap.specs.declared.calls.Answer.the-variants.{Done, ZeroSize, TooLarge, NoFit, NotLive, Damaged, BadLength}
+use Rattle.heap.specs.declared.calls.Out.{Out}
+use Rattle.heap.specs.Seen.{seen}
+use Rattle.heap.specs.Answer.{number, value, compared, outcome}
+
+-- an array of links is known by its numbers
+abbrev links-of : List ℕ → List Link
+links-of [] = []
+links-of (n ∷ ns) = record { 0 = n } ∷ links-of ns
+
+links-back : (ls : List Link) → links-of (numbers ls) ≡ ls
+links-back [] = refl
+links-back (l ∷ ls) = ap (λ (t : List Link). l ∷ t) (links-back ls)
+
+pub numbers-same : (ls ks : List Link) → numbers ls ≡ numbers ks → ls ≡ ks
+numbers-same ls ks e = sym (links-back ls) ∙ ap links-of e ∙ links-back ks
+
+-- the cached link is known by the list of cached chunks
+abbrev link-of : List ℕ → ℕ
+link-of [] = 0
+link-of (l ∷ ls) = l
+
+link-back : (l : ℕ) → link-of (cachedOf l) ≡ l
+link-back l = go (ℕ-discrete l 0)
+  where
+    go : Dec (l ≡ 0) → link-of (cachedOf l) ≡ l
+    go (yes e) = rw (eq-eqb l 0 e) (sym e)
+    go (no n) = rw (ne-eqb l 0 n) refl
+
+-- record and words are known by what is seen of them
+pub seen-same : (r q : Record) (ws vs : List ℕ) → seen r ws ≡ seen q vs → (r ≡ q) × (ws ≡ vs)
+seen-same r q ws vs e = (same, ap (λ (s : State). s .words) e)
+  where
+    prev : r .prev ≡ q .prev
+    prev = numbers-same (r .prev) (q .prev) (ap (λ (s : State). s .prevs) e)
+
+    next : r .next ≡ q .next
+    next = numbers-same (r .next) (q .next) (ap (λ (s : State). s .nexts) e)
+
+    cached : r .cached .0 ≡ q .cached .0
+    cached = sym (link-back (r .cached .0)) ∙ ap (λ (s : State). link-of (s .rest .cached)) e ∙ link-back (q .cached .0)
+
+    same : r ≡ q
+    same =
+        λ i. record {
+          prev = prev i;
+          next = next i;
+          words = e i .rest .words;
+          «in_use» = e i .rest .inUse;
+          peak = e i .rest .peak;
+          high = e i .rest .high;
+          cached = record { 0 = cached i };
+          fresh = e i .rest .flag;
+        }
+
+-- an answer is known by its three numbers
+abbrev answer-of : ℕ → ℕ → ℕ → Answer
+answer-of zero v c = Done (record { 0 = v }) c
+answer-of (suc zero) v c = ZeroSize
+answer-of (suc (suc zero)) v c = TooLarge
+answer-of (suc (suc (suc zero))) v c = NoFit c
+answer-of (suc (suc (suc (suc zero)))) v c = NotLive
+answer-of (suc (suc (suc (suc (suc zero))))) v c = Damaged
+answer-of (suc (suc (suc (suc (suc (suc n)))))) v c = BadLength
+
+answer-back : (a : Answer) → answer-of (number a) (value a) (compared a) ≡ a
+answer-back (Done p c) = refl
+answer-back ZeroSize = refl
+answer-back TooLarge = refl
+answer-back (NoFit c) = refl
+answer-back NotLive = refl
+answer-back Damaged = refl
+answer-back BadLength = refl
+
+-- answer, record and words are known by the outcome
+pub outcome-same : (o p : Out) (ws vs : List ℕ) → outcome (o .answer) (seen (o .rec) ws) ≡ outcome (p .answer) (seen (p .rec) vs) → (o ≡ p) × (ws ≡ vs)
+outcome-same o p ws vs e = (λ i. record { answer = answer i; rec = state .0 i }, state .1)
+  where
+    state : (o .rec ≡ p .rec) × (ws ≡ vs)
+    state = seen-same (o .rec) (p .rec) ws vs (ap (λ (q : Outcome State). q .after) e)
+
+    answer : o .answer ≡ p .answer
+    answer = sym (answer-back (o .answer)) ∙ ap (λ (q : Outcome State). answer-of (q .number) (q .value) (q .compared)) e ∙ answer-back (p .answer)
