@@ -40,8 +40,8 @@ use Rattle.heap.specs.Seen.{seen, base, figuresOf, withCached, countedIn
 use Rattle.heap.specs.Chunk.{freed, leftFreeIn, rightFreeIn, Releasable}
 use Rattle.heap.specs.Answer.{outcome, soundAt, servedBy, cacheServes, Served}
 use Rattle.audit.specs.Shown.{cachedOf}
-use Rattle.rules.proofs.Base.{Edition}
-use Rattle.rules.proofs.Widths.{narrow-laws}
+use Rattle.rules.proofs.Store.{Edition}
+use Rattle.words.proofs.Laws.Links.{narrow-lawful}
 use Rattle.rules.proofs.Editions.{edition, narrow-fits}
 use Rattle.rules.proofs.Bounds.{FoundFits, found-fitsᵇ, never-lostᵇ, nowhere-shortᵇ, CachedFits, cached-fitsᵇ, ReleaseFits, release-fitsᵇ, LiveFits, live-fitsᵇ, FiguresFit, figures-fitᵇ}
 
@@ -74,7 +74,7 @@ make-done r q ws ws1 n en h k e er eq = rw (le-leb _ _ h, le-leb _ _ k, eq-eqb _
 -- ---- THE EDITION, and what its soundness says of a record
 
 pub ours : Edition base 65529 1
-ours = edition narrow-laws 65529 1 narrow-fits
+ours = edition narrow-lawful 65529 1 narrow-fits
 
 -- the test does not look at the flag
 pub sound-flag : (ps ns ws : List ℕ) (n : ℕ) (ks : List ℕ) (u p h : ℕ) (b d : Bool)

@@ -11,7 +11,6 @@ use mathlib.Core.Bool.{Bool, true, false}
 use mathlib.Core.List.{List, [], _∷_, _++_}
 use Prim.Native.Nat.{ℕ, _+_, _-_, _*_, _/_, _%_, _≤_, _<_}
 use native.Mathlib.Omega.{arith}
-use native.Mathlib.Nat.{zero-add}
 use lib.Dec.{lit<}
 use lib.Arith.{digits-mod}
 use lib.ListN.{length, length-append}
@@ -30,17 +29,18 @@ use Rattle.rules.proofs.Part.{legal-front, legal-back}
 use Rattle.rules.proofs.Calls.{Whole, total-8}
 use Rattle.rules.specs.Orders.{freeHead}
 use Rattle.rules.proofs.Release.{right-read}
-use Rattle.rules.specs.Search.{Found, at, nowhere, lost}
+use Rattle.rules.specs.Search.{at, nowhere, lost}
 use Rattle.rules.proofs.Search.{find-fits, Fits, find-counts, Counts}
 use Rattle.rules.specs.Place.{usedAt}
 use Rattle.rules.proofs.Place.{free-at, used-at}
-use Rattle.rules.proofs.Threshold.{cls6}
+use Rattle.words.proofs.Laws.Sizes.{class-below}
 use Rattle.rules.proofs.Named.{size-at, listed-few}
 use Rattle.rules.specs.Rules.{Figures, byteOf, nameOf, firstFit, live}
-use Rattle.rules.specs.Machine.{Model, sizeM, searched, searchM}
+use Rattle.rules.specs.Machine.{Model, sizeM, searched}
 use Rattle.rules.specs.Sound.{Accepted, Shows}
 use Rattle.rules.specs.Test.{soundᵇ}
-use Rattle.rules.proofs.Base.{Edition, L, whole, few, search-same, met-free, met-size, used-size, left-there, live-same, live-is}
+use Rattle.rules.proofs.Store.{Edition}
+use Rattle.rules.proofs.Follow.{L, whole, few, search-same, met-free, met-size, used-size, left-there, live-same, live-is}
 use Rattle.rules.proofs.Decide.{sound-true}
 
 -- ---- sums of a layout
@@ -58,7 +58,8 @@ free-room [] n post = let r = used-le post in omega arith
         go false r = omega arith
 free-room (c ∷ pre) n post = go (c .used) (free-room pre n post)
   where
-    go : (u : Bool) → usedSum (pre ++ free n ∷ post) + n ≤ total (pre ++ free n ∷ post) → pick u (c .len) 0 + usedSum (pre ++ free n ∷ post) + n ≤ c .len + total (pre ++ free n ∷ post)
+    go : (u : Bool) → usedSum (pre ++ free n ∷ post) + n ≤ total (pre ++ free n ∷ post)
+        → pick u (c .len) 0 + usedSum (pre ++ free n ∷ post) + n ≤ c .len + total (pre ++ free n ∷ post)
     go true r = omega arith
     go false r = omega arith
 
@@ -133,13 +134,21 @@ module _ {S : Type 0} {op : Ops S Figures} {most places : ℕ} (E : Edition op m
         let a = h .right .peak in
         let b = h .right .high in
         let c = h .right .heap in
-        record { accepted = h .accepted; words = w ∙ h .words; inUse = omega arith; peak = omega arith; high = omega arith; eights = ap (λ (j : ℕ). j % 8) g ∙ h .right .eights }
+        record {
+          accepted = h .accepted;
+          words = w ∙ h .words;
+          inUse = omega arith;
+          peak = omega arith;
+          high = omega arith;
+          eights = ap (λ (j : ℕ). j % 8) g
+              ∙ h .right .eights;
+        }
 
     -- ---- searching
 
     met-few : (z c : ℕ) → c ≤ length (searched m z) → c ≤ op .count s / 4
     met-few z c q =
-        let l = listed-few (L E s m h) classOf cls6 s (m .orders) (m .cs) (whole E s m h) (6 - startOf z) (startOf z) (omega arith) in
+        let l = listed-few (L E s m h) classOf class-below s (m .orders) (m .cs) (whole E s m h) (6 - startOf z) (startOf z) (omega arith) in
         let f = few E s m h in
         omega arith
 
@@ -148,17 +157,18 @@ module _ {S : Type 0} {op : Ops S Figures} {most places : ℕ} (E : Edition op m
 
     pub nowhere-short : (sound : S → Bool) (z c : ℕ) → firstFit op places sound s z ≡ nowhere c → c ≤ op .count s / 4
     nowhere-short sound z c e =
-        let q : c ≡ 0 + length (searched m z) = subst (Counts (sizeM m) z (searched m z) 0) (sym (search-same E s m h sound z) ∙ e) (find-counts (sizeM m) z (searched m z) 0) in
+        let q : c ≡ 0 + length (searched m z) = subst (Counts (sizeM m) z (searched m z) 0) (sym (search-same E s m h sound z) ∙ e)
+        (find-counts (sizeM m) z (searched m z) 0) in
         met-few z c (omega arith)
 
     -- a free chunk, and its place
     free-place : (z x c n : ℕ) → z ≤ lengthAt op s x → c ≤ op .count s / 4 → In (slot x n) (frees 0 (m .cs)) → FoundFits op s z x c
     free-place z x c n zn cn i =
         let f = free-at 0 (m .cs) (slot x n) i in
-        let w = subst (λ cs. Whole (L E s m h) classOf cls6 s (m .orders) cs) (f .is) (whole E s m h) in
+        let w = subst (λ cs. Whole (L E s m h) classOf class-below s (m .orders) cs) (f .is) (whole E s m h) in
         let l = legal-back (f .pre) (free n ∷ f .post) (w .legal) in
         let t8 = total-8 (f .pre) (legal-front (f .pre) (free n ∷ f .post) (w .legal)) in
-        let y : lengthAt op s x ≡ n = size-at (L E s m h) classOf cls6 s (m .orders) (f .pre) n (f .post) x (f .named) w in
+        let y : lengthAt op s x ≡ n = size-at (L E s m h) classOf class-below s (m .orders) (f .pre) n (f .post) x (f .named) w in
         let b : x ≡ (0 + total (f .pre)) / 4 + 6 = f .named in
         let k : total (f .pre) / 4 ≡ 2 * (total (f .pre) / 8) = omega arith in
         let n8 : n % 8 ≡ 0 = l .1 in
@@ -169,7 +179,17 @@ module _ {S : Type 0} {op : Ops S Figures} {most places : ℕ} (E : Edition op m
         let v : m .figs .inUse ≡ usedSum (f .pre ++ free n ∷ f .post) = h .right .inUse ∙ ap usedSum (f .is) in
         let g : op .rest s .inUse ≡ m .figs .inUse = ap (λ (r : Figures). r .inUse) (h .figs) in
         let ev : x - 6 ≡ total (f .pre) / 8 * 2 + 0 = omega arith in
-        record { named = omega arith; reaches = zn; least = omega arith; eights = ap (λ (j : ℕ). j % 8) y ∙ n8; even = twice (x - 6) (total (f .pre) / 8) ev; inside = omega arith; room = omega arith; counted = cn }
+        record {
+          named = omega arith;
+          reaches = zn;
+          least = omega arith;
+          eights = ap (λ (j : ℕ). j % 8) y ∙ n8;
+          even = twice (x - 6)
+              (total (f .pre) / 8) ev;
+          inside = omega arith;
+          room = omega arith;
+          counted = cn;
+        }
 
     pub found-fits : (sound : S → Bool) (z x c : ℕ) → firstFit op places sound s z ≡ at x c → FoundFits op s z x c
     found-fits sound z x c e =
@@ -206,11 +226,20 @@ module _ {S : Type 0} {op : Ops S Figures} {most places : ℕ} (E : Edition op m
         let lt = left-there E (L E s m h) s (u .pre) n (u .post) x (u .byte) x6 lg tg in
         let at′ : rightOf (x - 6) (lengthAt op s x) ≡ (0 + total (u .pre) + n) / 4 = omega arith in
         let rt : rightFree op s (rightOf (x - 6) (lengthAt op s x)) ≡ freeHead (u .post) =
-        ap (λ (j : ℕ). rightFree op s j) at′ ∙ right-read (L E s m h) classOf cls6 s (0 + total (u .pre) + n) (u .post) (l .2) ((tags-back (op .word s) 0 true (u .pre) (busy n ∷ u .post) tg) .2) in
+        ap (λ (j : ℕ). rightFree op s j) at′ ∙ right-read (L E s m h) classOf class-below s (0 + total (u .pre) + n) (u .post) (l .2)
+        ((tags-back (op .word s) 0 true (u .pre) (busy n ∷ u .post) tg) .2) in
         let hd = head-8 (u .post) (l .2) in
         let hd1 = hd .1 in
         let ev : x - 6 ≡ total (u .pre) / 8 * 2 + 0 = omega arith in (
-          record { named = x6; least = omega arith; eights = ap (λ (j : ℕ). j % 8) y ∙ n8; even = twice (x - 6) (total (u .pre) / 8) ev; inside = omega arith; counted = omega arith },
+          record {
+            named = x6;
+            least = omega arith;
+            eights = ap (λ (j : ℕ). j % 8) y ∙ n8;
+            even = twice (x - 6)
+                (total (u .pre) / 8) ev;
+            inside = omega arith;
+            counted = omega arith;
+          },
           record { left-eights = lt .0; right-eights = ap (λ (j : ℕ). j % 8) rt ∙ hd .0; left = lt .1; right = omega arith },
         )
 
@@ -240,7 +269,8 @@ module _ {S : Type 0} {op : Ops S Figures} {most places : ℕ} (E : Edition op m
         record { low = p4; eights = omega arith; inside = omega arith }
 
     -- a live chunk's own header and neighbours, as of a cached one: with no cache place it is released at once
-    pub live-place : (sound : S → Bool) (p : ℕ) → live op places sound s p ≢ 0 → CachedFits op s (nameOf (p - 4)) × ReleaseFits op s (nameOf (p - 4) - 6) (lengthAt op s (nameOf (p - 4)))
+    pub live-place : (sound : S → Bool) (p : ℕ) → live op places sound s p ≢ 0
+        → CachedFits op s (nameOf (p - 4)) × ReleaseFits op s (nameOf (p - 4) - 6) (lengthAt op s (nameOf (p - 4)))
     live-place sound p q =
         let v = live-is E sound s m h p (λ e. q (live-same E sound s m h p ∙ e)) in
         used-place (nameOf (p - 4)) (omega arith) (subst (λ (b : ℕ). 0 < usedAt (m .cs) b) (sym (v .0)) (v .1))
@@ -268,5 +298,6 @@ module _ {S : Type 0} {op : Ops S Figures} {most places : ℕ} (E : Edition op m
     pub live-fitsᵇ : (sound : S → Bool) (p : ℕ) → live op places sound s p ≢ 0 → LiveFits op s p
     live-fitsᵇ = let h = sound-true E s ok in live-fits s (h .0) (h .1)
 
-    pub live-placeᵇ : (sound : S → Bool) (p : ℕ) → live op places sound s p ≢ 0 → CachedFits op s (nameOf (p - 4)) × ReleaseFits op s (nameOf (p - 4) - 6) (lengthAt op s (nameOf (p - 4)))
+    pub live-placeᵇ : (sound : S → Bool) (p : ℕ) → live op places sound s p ≢ 0
+        → CachedFits op s (nameOf (p - 4)) × ReleaseFits op s (nameOf (p - 4) - 6) (lengthAt op s (nameOf (p - 4)))
     live-placeᵇ = let h = sound-true E s ok in live-place s (h .0) (h .1)

@@ -1,4 +1,4 @@
--- The steps of taking and releasing by bytes, as the theory has them, and that the rules' steps by words are these. Assumes nothing.
+-- TAKING AND RELEASING BY BYTES, where the chunks are counted, and that the rules' steps by words are these. Assumes nothing.
 use mathlib.Core.Path.{_≡_, refl, sym, ap, _∙_}
 use mathlib.Core.Bool.{Bool, true, false}
 use Prim.Native.Nat.{ℕ, _+_, _-_, _*_, _/_, _%_, _≤_}
@@ -81,7 +81,8 @@ module _ {S R : Type 0} (op : Ops S R) where
       u = unlink op s (w + 6)
 
       go : (t : Bool) → leb (z + 12) n ≡ t
-          → pick t (link op (markFree op (markUsed op u w (pick t z n)) (w + z / 4) (n - z)) (classOf (n - z)) (w + z / 4 + 6)) (setLeft op (markUsed op u w (pick t z n)) (w + n / 4))
+          → pick t (link op (markFree op (markUsed op u w (pick t z n)) (w + z / 4) (n - z)) (classOf (n - z)) (w + z / 4 + 6))
+          (setLeft op (markUsed op u w (pick t z n)) (w + n / 4))
           ≡ pick t (link op (cutUsed u (w * 4) n z) (classOf (n - z)) (w + z / 4 + 6)) (wholeUsed u (w * 4) n)
       go true e = let q = leb-true (z + 12) n e in ap (λ (t : S). link op t (classOf (n - z)) (w + z / 4 + 6)) (cut-words u w n z h (omega arith))
       go false e = used-words u w n

@@ -80,7 +80,8 @@ module _ {S R : Type 0} {op : Ops S R} (L : LinkStore op) (cls : ℕ → ℕ) (c
 
       -- TAKEN AND CUT: the rest goes to the head of its list
       pub take-cut : lastUsed true pre ≡ true → (z : ℕ) → 16 ≤ z → z % 8 ≡ 0 → z + 16 ≤ n
-          → Whole (link op (cutUsed op (unlink op s (b / 4 + 6)) b n z) (cls (n - z)) ((b + z) / 4 + 6)) (push (drop O (cls n) (b / 4 + 6)) (cls (n - z)) ((b + z) / 4 + 6))
+          → Whole (link op (cutUsed op (unlink op s (b / 4 + 6)) b n z) (cls (n - z)) ((b + z) / 4 + 6))
+          (push (drop O (cls n) (b / 4 + 6)) (cls (n - z)) ((b + z) / 4 + 6))
           (pre ++ busy z ∷ free (n - z) ∷ post)
       unfolding push
       take-cut u z z16 z8 zn =
@@ -95,16 +96,19 @@ module _ {S R : Type 0} {op : Ops S R} (L : LinkStore op) (cls : ℕ → ℕ) (c
           (omega arith) p)
 
     -- A PART BECOMES ONE FREE CHUNK, listed: the end of every release
-    pub freed : lastUsed true pre ≡ true → (s : S) (O : ℕ → List ℕ) (mid : List Chunk) (m : ℕ) → total mid ≡ m → 16 ≤ m → m % 8 ≡ 0 → Part L cls s O (pre ++ (mid ++ post)) (outside L cls cls6 pre post O m)
+    pub freed : lastUsed true pre ≡ true → (s : S) (O : ℕ → List ℕ) (mid : List Chunk) (m : ℕ) → total mid ≡ m → 16 ≤ m → m % 8 ≡ 0
+        → Part L cls s O (pre ++ (mid ++ post)) (outside L cls cls6 pre post O m)
         → Whole (link op (oneFree op s b m) (cls m) (b / 4 + 6)) (push O (cls m) (b / 4 + 6)) (pre ++ free m ∷ post)
     unfolding push
     freed u s O mid m em m16 m8 p =
         let q = free-part L cls cls6 pre post O u s mid m em m16 m8 p in
         rw (frees-free m)
         (part-link L cls cls6 (oneFree op s b m) O (pre ++ free m ∷ post) (frees 0 pre) (frees (b + m) post) (b / 4 + 6) m
-        (outside-alone L cls cls6 pre post O m (legal-front pre (mid ++ post) (p .legal)) (legal-back mid post (legal-back pre (mid ++ post) (p .legal))) (b / 4) (omega arith) (omega arith))
+        (outside-alone L cls cls6 pre post O m (legal-front pre (mid ++ post) (p .legal)) (legal-back mid post (legal-back pre (mid ++ post) (p .legal))) (b / 4)
+        (omega arith) (omega arith))
         (rw (frees-free m) (Memᴰ·append-right (frees 0 pre) (List·Memᴰ·head refl)))
-        (let h8 = total-8 pre (legal-front pre (mid ++ post) (p .legal)) in let r = q .size in let y = total-append pre (free m ∷ post) in L .fit b (omega arith) (omega arith))
+        (let h8 = total-8 pre (legal-front pre (mid ++ post) (p .legal)) in let r = q .size in
+        let y = total-append pre (free m ∷ post) in L .fit b (omega arith) (omega arith))
         (omega arith) q)
 
     -- RELEASED: the four merges
@@ -129,14 +133,16 @@ module _ {S R : Type 0} {op : Ops S R} (L : LinkStore op) (cls : ℕ → ℕ) (c
           (rw (frees-append 0 pre (busy n ∷ free g ∷ post), e) at w)
 
       pub release-right : lastUsed true pre ≡ true → (g : ℕ) → Whole s O (pre ++ busy n ∷ free g ∷ post)
-          → Whole (link op (oneFree op (unlink op s ((b + n) / 4 + 6)) b (n + g)) (cls (n + g)) (b / 4 + 6)) (push (drop O (cls g) ((b + n) / 4 + 6)) (cls (n + g)) (b / 4 + 6))
+          → Whole (link op (oneFree op (unlink op s ((b + n) / 4 + 6)) b (n + g)) (cls (n + g)) (b / 4 + 6))
+          (push (drop O (cls g) ((b + n) / 4 + 6)) (cls (n + g)) (b / 4 + 6))
           (pre ++ free (n + g) ∷ post)
       release-right u g w =
           let l = legal-back pre (busy n ∷ free g ∷ post) (w .legal) in
           let n16 : 16 ≤ n = l .0 in
           let n8 : n % 8 ≡ 0 = l .1 in
           let g8 : g % 8 ≡ 0 = l .2 .1 in
-          freed u (unlink op s ((b + n) / 4 + 6)) (drop O (cls g) ((b + n) / 4 + 6)) (busy n ∷ free g ∷ []) (n + g) (omega arith) (omega arith) (omega arith) (right-off g w)
+          freed u (unlink op s ((b + n) / 4 + 6)) (drop O (cls g) ((b + n) / 4 + 6)) (busy n ∷ free g ∷ []) (n + g) (omega arith) (omega arith) (omega arith)
+          (right-off g w)
 
       -- the left neighbour, f bytes, at b
       pub left-off : (f : ℕ) → Whole s O (pre ++ free f ∷ busy n ∷ post)
@@ -181,13 +187,16 @@ module _ {S R : Type 0} {op : Ops S R} (L : LinkStore op) (cls : ℕ → ℕ) (c
           two t q (inr i) al h = al t i q
 
       pub both-off : (f g : ℕ) → Whole s O (pre ++ free f ∷ busy n ∷ free g ∷ post)
-          → Part L cls (unlink op (unlink op s (b / 4 + 6)) ((b + f + n) / 4 + 6)) (drop (drop O (cls f) (b / 4 + 6)) (cls g) ((b + f + n) / 4 + 6)) (pre ++ free f ∷ busy n ∷ free g ∷ post)
+          → Part L cls (unlink op (unlink op s (b / 4 + 6)) ((b + f + n) / 4 + 6)) (drop (drop O (cls f) (b / 4 + 6)) (cls g) ((b + f + n) / 4 + 6))
+          (pre ++ free f ∷ busy n ∷ free g ∷ post)
           (outside L cls cls6 pre post O (f + (n + g)))
       both-off f g w =
           let l = legal-back pre (free f ∷ busy n ∷ free g ∷ post) (w .legal) in
           let g16 : 16 ≤ g = l .2 .2 .0 in
-          unlinked (unlink op s (b / 4 + 6)) (drop O (cls f) (b / 4 + 6)) (pre ++ free f ∷ busy n ∷ free g ∷ post) (frees 0 pre) (frees (b + (f + (n + g))) post) ((b + f + n) / 4 + 6) g
-          (outside-alone L cls cls6 pre post O (f + (n + g)) (legal-front pre (free f ∷ busy n ∷ free g ∷ post) (w .legal)) (l .2 .2 .2) ((b + f + n) / 4) (omega arith) (omega arith))
+          unlinked (unlink op s (b / 4 + 6)) (drop O (cls f) (b / 4 + 6)) (pre ++ free f ∷ busy n ∷ free g ∷ post) (frees 0 pre) (frees (b + (f + (n + g))) post)
+          ((b + f + n) / 4 + 6) g
+          (outside-alone L cls cls6 pre post O (f + (n + g)) (legal-front pre (free f ∷ busy n ∷ free g ∷ post) (w .legal)) (l .2 .2 .2) ((b + f + n) / 4)
+          (omega arith) (omega arith))
           (first-off f g w)
 
       pub release-both : lastUsed true pre ≡ true → (f g : ℕ) → Whole s O (pre ++ free f ∷ busy n ∷ free g ∷ post)

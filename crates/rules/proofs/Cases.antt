@@ -1,5 +1,5 @@
 -- HOW A CALL CAN END, case by case: on states, and on models. Each lemma shows a property of the outcome from what each way out yields. Assumes nothing.
-use mathlib.Core.Path.{_≡_, refl, sym, subst}
+use mathlib.Core.Path.{_≡_, refl, subst}
 use mathlib.Core.Logic.{_≢_}
 use mathlib.Core.Bool.{Bool, true, false}
 use mathlib.Core.List.{List, [], _∷_, _++_}
@@ -13,14 +13,16 @@ use Rattle.rules.specs.Ops.{Ops}
 use Rattle.rules.specs.Steps.{lengthAt}
 use Rattle.rules.specs.Search.{Found, at, nowhere, lost}
 use Rattle.rules.proofs.Search.{find-fits, Fits}
-use Rattle.rules.specs.Rules.{Figures, Outcome, says, byteOf, nameOf, Chosen, none, one, choose, withCached, firstFit, fromList, fromCache, serve, handOut, live, settled, takeBack}
+use Rattle.rules.specs.Rules.{Figures, Outcome, says, byteOf, nameOf, Chosen, none, one, choose, withCached, firstFit, fromList, fromCache, serve}
+use Rattle.rules.specs.Rules.{handOut, live, settled, takeBack}
 use Rattle.rules.specs.Machine.{Model, sizeM, tookM, searched, searchM, fromListM, fromCacheM, handOutM, liveM, settledM, takeBackM}
-use Rattle.rules.proofs.Base.{choose-picked, Picked}
+use Rattle.rules.proofs.Follow.{choose-picked, Picked}
 
 module _ {S : Type 0} (op : Ops S Figures) (places : ℕ) (sound : S → Bool) (s : S) where
   -- HANDING OUT: 1, 2, 5, or served
   pub hand-cases : (size : ℕ) (P : Outcome S → Type 0) → (size ≡ 0 → P (says 1 0 0 s)) → (4294967284 < size → P (says 2 0 0 s))
-      → (0 < size → size ≤ 4294967284 → sound s ≡ false → P (says 5 0 0 s)) → (0 < size → size ≤ 4294967284 → sound s ≡ true → P (serve op places sound s (roundedOf size)))
+      → (0 < size → size ≤ 4294967284 → sound s ≡ false → P (says 5 0 0 s)) →
+      (0 < size → size ≤ 4294967284 → sound s ≡ true → P (serve op places sound s (roundedOf size)))
       → P (handOut op places sound s size)
   unfolding handOut
   hand-cases size P zero large bad fine = go (eqb size 0) refl (ltb 4294967284 size) refl (sound s) refl
@@ -33,7 +35,8 @@ module _ {S : Type 0} (op : Ops S Figures) (places : ℕ) (sound : S → Bool) (
       go false e false f true g = let n = eqb-false size 0 e in fine (omega arith) (ltb-false 4294967284 size f) g
 
   -- served: from the cache or a list; or no fit; or the search is lost
-  pub serve-cases : (z : ℕ) (P : Outcome S → Type 0) → ((x : ℕ) (t : S) → P (says 0 (byteOf x + 4) 0 t)) → ((x c : ℕ) (t : S) → P (says 0 (byteOf x + 4) c t)) → ((c : ℕ) → P (says 3 0 c s)) → P (says 5 0 0 s)
+  pub serve-cases : (z : ℕ) (P : Outcome S → Type 0) → ((x : ℕ) (t : S) → P (says 0 (byteOf x + 4) 0 t)) → ((x c : ℕ) (t : S) → P (says 0 (byteOf x + 4) c t))
+      → ((c : ℕ) → P (says 3 0 c s)) → P (says 5 0 0 s)
       → P (serve op places sound s z)
   unfolding serve fromCache fromList
   serve-cases z P cache list short off = served (choose (lengthAt op s) z (op .rest s .cached))
@@ -49,7 +52,8 @@ module _ {S : Type 0} (op : Ops S Figures) (places : ℕ) (sound : S → Bool) (
 
   -- TAKING BACK: 5, 4, or done
   pub back-cases : (p : ℕ) (P : Outcome S → Type 0) → (sound s ≡ false → P (says 5 0 0 s)) → (sound s ≡ true → live op places sound s p ≡ 0 → P (says 4 0 0 s))
-      → (sound s ≡ true → live op places sound s p ≢ 0 → P (says 0 0 0 (settled op places sound s (op .rest s .cached ++ nameOf (p - 4) ∷ [])))) → P (takeBack op places sound s p)
+      → (sound s ≡ true → live op places sound s p ≢ 0 → P (says 0 0 0 (settled op places sound s (op .rest s .cached ++ nameOf (p - 4) ∷ [])))) → P
+      (takeBack op places sound s p)
   unfolding takeBack
   back-cases p P bad cold done = go (sound s) refl (eqb (live op places sound s p) 0) refl
     where
@@ -73,7 +77,8 @@ module _ (m : Model) where
       go false e false f = let n = eqb-false size 0 e in fine (omega arith) (ltb-false 4294967284 size f)
 
   pub serveM-cases : (z : ℕ) (P : Outcome Model → Type 0)
-      → ((x : ℕ) (ks : List ℕ) → Picked (sizeM m) z (m .figs .cached) (one x ks) → P (says 0 (byteOf x + 4) 0 (record { cs = m .cs; orders = m .orders; figs = withCached (m .figs) ks })))
+      → ((x : ℕ) (ks : List ℕ) → Picked (sizeM m) z (m .figs .cached) (one x ks) → P
+      (says 0 (byteOf x + 4) 0 (record { cs = m .cs; orders = m .orders; figs = withCached (m .figs) ks })))
       → (Picked (sizeM m) z (m .figs .cached) none → (x c : ℕ) → searchM m z ≡ at x c → P (says 0 (byteOf x + 4) c (tookM m x (sizeM m x) z)))
       → (Picked (sizeM m) z (m .figs .cached) none → (c : ℕ) → searchM m z ≡ nowhere c → P (says 3 0 c m))
       → P (fromCacheM m z (choose (sizeM m) z (m .figs .cached)))

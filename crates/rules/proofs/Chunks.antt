@@ -1,19 +1,14 @@
--- The chunks, left to right, as a list: releasing with its merges, and taking with its split. Assumes nothing.
+-- Laws of specs/Chunks.antt: what keeps free chunks from touching and lengths legal; the four merges around a place. Assumes nothing.
 use mathlib.Core.Path.{_≡_, refl, sym, ap, _∙_}
 use mathlib.Core.Bool.{Bool, true, false}
 use mathlib.Core.List.{List, [], _∷_, _++_}
-use Prim.Native.Nat.{ℕ, zero, suc, _+_, _-_, _%_, _≤_, _<_}
-use native.Mathlib.Nat.{add-assoc, zero-add, suc-add, not-suc-le-zero, le-of-suc-le-suc, le-trans}
+use Prim.Native.Nat.{ℕ, zero, suc, _+_, _-_, _%_, _≤_}
+use native.Mathlib.Nat.{add-assoc, zero-add, suc-add}
 use native.Mathlib.Omega.{arith}
 use lib.Dec.{leb}
-use lib.ListN.{length, getD, take}
-use borrow.Author.Tests.{leb-true}
+use lib.ListN.{length, getD}
 use Rattle.words.specs.Choice.{pick}
 use Rattle.rules.specs.Chunks.{Calm, Chunk, Legal, busy, cut, either, free, join, release, taken, total, usedHead}
-
--- where chunk i begins
-abbrev pub offset : List Chunk → ℕ → ℕ
-offset cs i = total (take i cs)
 
 pub join-calm : (c : Chunk) (cs : List Chunk) → Calm cs → Calm (join c cs)
 unfolding join
@@ -34,15 +29,6 @@ join-calm c (d ∷ cs) k = go (either (c .used) (d .used)) refl
     go true e = (e, k)
     go false e = (rest (c .used) (d .used) e (k .0), k .1)
 
-pub join-total : (c : Chunk) (cs : List Chunk) → total (join c cs) ≡ c .len + total cs
-unfolding join
-join-total c [] = refl
-join-total c (d ∷ cs) = go (either (c .used) (d .used))
-  where
-    go : (b : Bool) → total (pick b (c ∷ d ∷ cs) (free (c .len + d .len) ∷ cs)) ≡ c .len + (d .len + total cs)
-    go true = refl
-    go false = add-assoc (c .len) (d .len) (total cs)
-
 pub join-legal : (c : Chunk) (cs : List Chunk) → 16 ≤ c .len → c .len % 8 ≡ 0 → Legal cs → Legal (join c cs)
 unfolding join
 join-legal c [] a b l = (a, b, tt)
@@ -58,20 +44,11 @@ release-calm [] i k = tt
 release-calm (c ∷ cs) zero k = join-calm (free (c .len)) cs (k .1)
 release-calm (c ∷ cs) (suc i) k = join-calm c (release cs i) (release-calm cs i (k .1))
 
-pub release-total : (cs : List Chunk) (i : ℕ) → total (release cs i) ≡ total cs
-unfolding release
-release-total [] i = refl
-release-total (c ∷ cs) zero = join-total (free (c .len)) cs
-release-total (c ∷ cs) (suc i) = join-total c (release cs i) ∙ ap (λ (n : ℕ). c .len + n) (release-total cs i)
-
 pub release-legal : (cs : List Chunk) (i : ℕ) → Legal cs → Legal (release cs i)
 unfolding release
 release-legal [] i l = tt
 release-legal (c ∷ cs) zero l = join-legal (free (c .len)) cs (l .0) (l .1) (l .2)
 release-legal (c ∷ cs) (suc i) l = join-legal c (release cs i) (l .0) (l .1) (release-legal cs i (l .2))
-
-isUsed : List Chunk → ℕ → Bool
-isUsed cs i = (getD cs i (busy 0)) .used
 
 taken-head : (cs : List Chunk) (i s : ℕ) → usedHead cs ≡ true → usedHead (taken cs i s) ≡ true
 unfolding taken cut
@@ -101,26 +78,6 @@ taken-calm (c ∷ cs) zero s k f = go (leb (s + 12) (c .len))
     go false = (refl, k .1)
 taken-calm (c ∷ cs) (suc i) s k f =
     (either-mono (c .used) (usedHead cs) (usedHead (taken cs i s)) (taken-head cs i s) (k .0), taken-calm cs i s (k .1) f)
-
-pub taken-total : (cs : List Chunk) (i s : ℕ) → s ≤ (getD cs i (busy 0)) .len → total (taken cs i s) ≡ total cs
-unfolding taken cut
-taken-total [] i s h = refl
-taken-total (c ∷ cs) zero s h = go (leb (s + 12) (c .len)) refl
-  where
-    go : (b : Bool) → leb (s + 12) (c .len) ≡ b → total (pick b (busy s ∷ free (c .len - s) ∷ cs) (busy (c .len) ∷ cs)) ≡ c .len + total cs
-    go true e = omega arith
-    go false e = refl
-taken-total (c ∷ cs) (suc i) s h = ap (λ (n : ℕ). c .len + n) (taken-total cs i s h)
-
-pub taken-legal : (cs : List Chunk) (i s : ℕ) → 16 ≤ s → s % 8 ≡ 0 → Legal cs → Legal (taken cs i s)
-unfolding taken cut
-taken-legal [] i s a b l = tt
-taken-legal (c ∷ cs) zero s a b l = go (leb (s + 12) (c .len)) refl
-  where
-    go : (t : Bool) → leb (s + 12) (c .len) ≡ t → Legal (pick t (busy s ∷ free (c .len - s) ∷ cs) (busy (c .len) ∷ cs))
-    go true e = let h = leb-true (s + 12) (c .len) e in (a, b, (omega arith, omega arith, l .2))
-    go false e = l
-taken-legal (c ∷ cs) (suc i) s a b l = (l .0, l .1, taken-legal cs i s a b (l .2))
 
 -- ---- around a place: cs is pre ++ .., and pre ends in a used chunk or is empty
 
@@ -174,19 +131,3 @@ module _ (pre post : List Chunk) (n : ℕ) (k : Calm pre) (u : usedLast pre ≡ 
 pub total-append : (pre cs : List Chunk) → total (pre ++ cs) ≡ total pre + total cs
 total-append [] cs = sym (zero-add (total cs))
 total-append (c ∷ pre) cs = ap (λ (n : ℕ). c .len + n) (total-append pre cs) ∙ sym (add-assoc (c .len) (total pre) (total cs))
-
-pub offset-at : (pre cs : List Chunk) → offset (pre ++ cs) (length pre) ≡ total pre
-offset-at [] cs = refl
-offset-at (c ∷ pre) cs = ap (λ (n : ℕ). c .len + n) (offset-at pre cs)
-
-pub offset-suc : (cs : List Chunk) (i : ℕ) → i < length cs → offset cs (suc i) ≡ offset cs i + (getD cs i (busy 0)) .len
-offset-suc [] i h = absurd (not-suc-le-zero h)
-offset-suc (c ∷ cs) zero h = omega arith
-offset-suc (c ∷ cs) (suc i) h = ap (λ (n : ℕ). c .len + n) (offset-suc cs i (le-of-suc-le-suc h)) ∙ sym (add-assoc (c .len) (offset cs i) ((getD cs i (busy 0)) .len))
-
--- different chunks begin at different places
-pub offset-mono : (cs : List Chunk) (i j : ℕ) → Legal cs → i < j → j ≤ length cs → offset cs i + 16 ≤ offset cs j
-offset-mono [] i j l h q = absurd (not-suc-le-zero (le-trans h q))
-offset-mono (c ∷ cs) i zero l h q = absurd (not-suc-le-zero h)
-offset-mono (c ∷ cs) zero (suc j) l h q = let a = l .0 in omega arith
-offset-mono (c ∷ cs) (suc i) (suc j) l h q = let r = offset-mono cs i j (l .2) (le-of-suc-le-suc h) (le-of-suc-le-suc q) in omega arith

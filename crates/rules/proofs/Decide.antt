@@ -1,4 +1,4 @@
--- SOUND, TESTED: an executable test, and that it says yes exactly for a sound state; the model that a state shows is one. Assumes nothing.
+-- SOUND, TESTED: the test says yes exactly for a sound state; and the model that a state shows is one. Assumes nothing.
 use mathlib.Core.Path.{_≡_, refl, sym, ap, _∙_, subst}
 use mathlib.Core.Bool.{Bool, true, false, not}
 use mathlib.Core.List.{List, [], _∷_, List·Memᴰ, List·Memᴰ·head, List·Memᴰ·tail, List·Memᴰ·not-nil}
@@ -18,14 +18,15 @@ use Rattle.rules.specs.Tags.{Tags, Foot, headTag}
 use Rattle.rules.specs.Exact.{Slot, slot, In, frees, Exact}
 use Rattle.rules.specs.Place.{usedAt}
 use Rattle.words.specs.Sizes.{classOf}
-use Rattle.rules.proofs.Threshold.{cls6}
-use Rattle.rules.proofs.Audit.{tile-tags}
+use Rattle.words.proofs.Laws.Sizes.{class-below}
+use Rattle.rules.proofs.Enough.{tile-tags}
 use Rattle.rules.specs.Test.{both, legalᵇ, calmᵇ, tagsᵇ, segᵇ, belowᵇ, everyᵇ, slotᵇ, exactᵇ, distinctᵇ, underᵇ, cacheᵇ, figuresᵇ, showsᵇ, candidate, soundᵇ}
 use Rattle.rules.proofs.Named.{order-few}
 use Rattle.rules.specs.Rules.{Figures, byteOf, listed}
 use Rattle.rules.specs.Machine.{Model}
 use Rattle.rules.specs.Sound.{Under, CacheRight, FiguresRight, Shows, Sound}
-use Rattle.rules.proofs.Base.{Edition, whole, few, L, listed-true, listed-false}
+use Rattle.rules.proofs.Store.{Edition}
+use Rattle.rules.proofs.Follow.{whole, few, L, listed-true, listed-false}
 
 -- a Boolean that says whether P holds
 pub record Tells (b : Bool) (P : Type 0) : Type 0 where
@@ -101,7 +102,8 @@ tells-below f P t (suc n) = tells-map (λ p k h. one p k h (ℕ-discrete k n)) (
 tells-every : {A : Type 0} (f : A → Bool) (P : A → Type 0) → ((x : A) → Tells (f x) (P x)) → (xs : List A) → Tells (everyᵇ f xs) ((x : A) → List·Memᴰ x xs → P x)
 unfolding everyᵇ
 tells-every f P t [] = record { to = λ e x m. absurd (List·Memᴰ·not-nil m); from = λ g. refl }
-tells-every {A = A} f P t (x ∷ xs) = tells-map (λ p y m. one p y m) (λ g. (g x (List·Memᴰ·head refl), λ y m. g y (List·Memᴰ·tail m))) (tells-and (t x) (tells-every f P t xs))
+tells-every {A = A} f P t (x ∷ xs) =
+    tells-map (λ p y m. one p y m) (λ g. (g x (List·Memᴰ·head refl), λ y m. g y (List·Memᴰ·tail m))) (tells-and (t x) (tells-every f P t xs))
   where
     one : P x × ((y : A) → List·Memᴰ y xs → P y) → (y : A) → List·Memᴰ y (x ∷ xs) → P y
     one p y (List·Memᴰ·head e) = subst P (sym e) (p .0)
@@ -139,7 +141,8 @@ tells-exact O F =
     (λ p. record { listed = λ x n m. p .0 (slot x n) m; only = λ k x h m. p .1 k h x m })
     (λ e. (λ t m. e .listed (t .name) (t .len) m, λ k h x m. e .only k x h m))
     (tells-and
-    (tells-every (λ t. listed (t .name) (O (classOf (t .len)))) (λ (t : Slot). Mem (t .name) (O (classOf (t .len)))) (λ t. tells-listed (t .name) (O (classOf (t .len)))) F)
+    (tells-every (λ t. listed (t .name) (O (classOf (t .len)))) (λ (t : Slot). Mem (t .name) (O (classOf (t .len))))
+    (λ t. tells-listed (t .name) (O (classOf (t .len)))) F)
     (tells-below (λ k. everyᵇ (λ x. slotᵇ x k F) (O k)) (λ k. (x : ℕ) → Mem x (O k) → (n : ℕ) × In (slot x n) F × (classOf n ≡ k))
     (λ k. tells-every (λ x. slotᵇ x k F) (λ (x : ℕ). (n : ℕ) × In (slot x n) F × (classOf n ≡ k)) (λ x. tells-slot x k F) (O k)) 6))
 
@@ -164,7 +167,8 @@ tells-cache : (places : ℕ) (ks : List ℕ) (cs : List Chunk) → Tells (cache�
 unfolding cacheᵇ
 tells-cache places ks cs =
     tells-map (λ p. record { used = p .0; once = p .1 .0; room = p .1 .1 }) (λ c. (c .used, (c .once, c .room)))
-    (tells-and (tells-every (λ x. both (leb 6 x) (leb 1 (usedAt cs (byteOf x)))) (λ (x : ℕ). (6 ≤ x) × (0 < usedAt cs (byteOf x))) (λ x. tells-and (tells-le 6 x) (tells-le 1 (usedAt cs (byteOf x)))) ks)
+    (tells-and (tells-every (λ x. both (leb 6 x) (leb 1 (usedAt cs (byteOf x)))) (λ (x : ℕ). (6 ≤ x) × (0 < usedAt cs (byteOf x)))
+    (λ x. tells-and (tells-le 6 x) (tells-le 1 (usedAt cs (byteOf x)))) ks)
     (tells-and (tells-distinct ks) (tells-le (length ks) places)))
 
 tells-figures : (f : Figures) (b : ℕ) (cs : List Chunk) → Tells (figuresᵇ f b cs) (FiguresRight f b cs)
@@ -177,7 +181,8 @@ tells-figures f b cs =
     (tells-and (tells-eq (f .high % 8) 0) (tells-under (f .high) 0 cs))))))
 
 -- with the figures given, the test tells whether s shows m
-pub tells-shows : {S : Type 0} (op : Ops S Figures) (most places : ℕ) (s : S) (m : Model) → op .rest s ≡ m .figs → Tells (showsᵇ op most places s m) (Shows op most places s m)
+pub tells-shows : {S : Type 0} (op : Ops S Figures) (most places : ℕ) (s : S) (m : Model) → op .rest s ≡ m .figs
+    → Tells (showsᵇ op most places s m) (Shows op most places s m)
 unfolding showsᵇ
 tells-shows op most places s m fe =
     tells-map
@@ -195,12 +200,22 @@ tells-shows op most places s m fe =
       cache = p .1 .1 .1 .1 .1 .1 .1 .1 .1 .1 .1 .0;
       right = p .1 .1 .1 .1 .1 .1 .1 .1 .1 .1 .1 .1;
     })
-    (λ h. (h .six, (h .words, (h .accepted .0, (h .accepted .1, (h .accepted .2, (h .legal, (h .fills, (h .tags, (h .calm, (h .lists, (h .exact, (h .cache, h .right)))))))))))))
+    (λ h. (
+      h .six,
+      (
+        h .words,
+        (
+          h .accepted .0,
+          (h .accepted .1, (h .accepted .2, (h .legal, (h .fills, (h .tags, (h .calm, (h .lists, (h .exact, (h .cache, h .right))))))))),
+        ),
+      ),
+    ))
     (tells-and (tells-bool (op .six s)) (tells-and (tells-eq (m .figs .words) (op .count s))
     (tells-and (tells-le 5 (op .count s)) (tells-and (tells-le (op .count s) most) (tells-and (tells-eq (op .count s % 2) 1)
     (tells-and (tells-legal (m .cs)) (tells-and (tells-eq (total (m .cs)) (4 * (op .count s - 1)))
     (tells-and (tells-tags (op .word s) 0 true (m .cs)) (tells-and (tells-calm (m .cs))
-    (tells-and (tells-below (λ k. segᵇ (op .next s) (op .prev s) k (m .orders k) k) (λ k. Seg (op .next s) (op .prev s) k (m .orders k) k) (λ k. tells-seg (op .next s) (op .prev s) k (m .orders k) k) 6)
+    (tells-and (tells-below (λ k. segᵇ (op .next s) (op .prev s) k (m .orders k) k) (λ k. Seg (op .next s) (op .prev s) k (m .orders k) k)
+    (λ k. tells-seg (op .next s) (op .prev s) k (m .orders k) k) 6)
     (tells-and (tells-exact (m .orders) (frees 0 (m .cs)))
     (tells-and (tells-cache places (m .figs .cached) (m .cs)) (tells-figures (m .figs) (4 * (op .count s - 1)) (m .cs))))))))))))))
 
@@ -216,14 +231,14 @@ module _ {S : Type 0} {op : Ops S Figures} {most places : ℕ} (E : Edition op m
     orders-are : (k : ℕ) → k < 6 → candidate op most places s .orders k ≡ m .orders k
     unfolding candidate
     orders-are k q =
-        let o = order-few (L E s m h) classOf cls6 s (m .orders) (m .cs) (whole E s m h) k q in
+        let o = order-few (L E s m h) classOf class-below s (m .orders) (m .cs) (whole E s m h) k q in
         let c = few E s m h in
         let n = h .accepted .0 in
         walk-ring (op .next s) (op .prev s) k (m .orders k) (op .count s) (ring-once (L E s m h) s (m .orders) (whole E s m h .rings) k q) (omega arith) (h .lists k q)
 
     exact-is : Exact classOf (candidate op most places s .orders) (frees 0 (m .cs))
     exact-is = record {
-      listed = λ x n i. subst (λ t. Mem x t) (sym (orders-are (classOf n) (cls6 n))) (h .exact .listed x n i);
+      listed = λ x n i. subst (λ t. Mem x t) (sym (orders-are (classOf n) (class-below n))) (h .exact .listed x n i);
       only = λ k x q i. h .exact .only k x q (subst (λ t. Mem x t) (orders-are k q) i);
     }
 
@@ -240,7 +255,9 @@ module _ {S : Type 0} {op : Ops S Figures} {most places : ℕ} (E : Edition op m
       calm = subst Calm (sym chunks-are) (h .calm);
       lists = λ k q. subst (λ xs. Seg (op .next s) (op .prev s) k xs k) (sym (orders-are k q)) (h .lists k q);
       exact = subst (λ cs. Exact classOf (candidate op most places s .orders) (frees 0 cs)) (sym chunks-are) exact-is;
-      cache = subst (λ cs. CacheRight places (op .rest s .cached) cs) (sym chunks-are) (subst (λ (f : Figures). CacheRight places (f .cached) (m .cs)) (sym (h .figs)) (h .cache));
+      cache =
+          subst (λ cs. CacheRight places (op .rest s .cached) cs) (sym chunks-are)
+          (subst (λ (f : Figures). CacheRight places (f .cached) (m .cs)) (sym (h .figs)) (h .cache));
       right = subst (λ cs. FiguresRight (op .rest s) (4 * (op .count s - 1)) cs) (sym chunks-are)
           (subst (λ (f : Figures). FiguresRight f (4 * (op .count s - 1)) (m .cs)) (sym (h .figs)) (h .right));
     }

@@ -18,16 +18,16 @@ use Rattle.rules.proofs.Calls.{total-8}
 use Rattle.rules.specs.Search.{Found, at, nowhere}
 use Rattle.rules.proofs.Search.{find-fits, Fits, find-counts, Counts}
 use Rattle.rules.specs.Place.{lenAt, usedAt}
-use Rattle.rules.proofs.Place.{free-at, len-at, used-at}
-use Rattle.rules.proofs.Persist.{used-skip}
-use Rattle.rules.proofs.Threshold.{cls6}
+use Rattle.rules.proofs.Place.{free-at, len-at, used-at, used-skip}
+use Rattle.words.proofs.Laws.Sizes.{class-below}
 use Rattle.rules.proofs.Exactly.{none-fits, some-fits, few-compared, five-listed, Few}
-use Rattle.rules.specs.Rules.{Figures, Outcome, says, byteOf, nameOf, listed}
+use Rattle.rules.specs.Rules.{Figures, byteOf, nameOf, listed}
 use Rattle.rules.specs.Machine.{Model, sizeM, searched, searchM, handOutM, liveM, takeBackM}
 use Rattle.rules.specs.Sound.{Shows, Sound}
 use Rattle.rules.specs.Test.{soundᵇ}
 use Rattle.rules.specs.Demands.{NoFit, FromCache, FromList, LiveAt, hand, back}
-use Rattle.rules.proofs.Base.{Edition, Follows, handOut-follows, takeBack-follows, live-is, listed-true}
+use Rattle.rules.proofs.Store.{Edition}
+use Rattle.rules.proofs.Follow.{Follows, handOut-follows, takeBack-follows, live-is, listed-true}
 use Rattle.rules.proofs.Cases.{hand-cases, serve-cases, back-cases, handM-cases, serveM-cases, backM-cases}
 use Rattle.rules.proofs.Decide.{sound-true, true-sound}
 
@@ -40,7 +40,8 @@ module _ {S : Type 0} (op : Ops S Figures) (most places : ℕ) (s : S) where
   hand-numbers size =
       hand-cases op places sound s size (λ o. Mem (o .number) (0 ∷ 1 ∷ 2 ∷ 3 ∷ 5 ∷ []))
       (λ e. second) (λ e. List·Memᴰ·tail second) (λ a b e. fifth)
-      (λ a b e. serve-cases op places sound s (roundedOf size) (λ o. Mem (o .number) (0 ∷ 1 ∷ 2 ∷ 3 ∷ 5 ∷ [])) (λ x t. List·Memᴰ·head refl) (λ x c t. List·Memᴰ·head refl) (λ c. List·Memᴰ·tail (List·Memᴰ·tail second)) fifth)
+      (λ a b e. serve-cases op places sound s (roundedOf size) (λ o. Mem (o .number) (0 ∷ 1 ∷ 2 ∷ 3 ∷ 5 ∷ [])) (λ x t. List·Memᴰ·head refl)
+      (λ x c t. List·Memᴰ·head refl) (λ c. List·Memᴰ·tail (List·Memᴰ·tail second)) fifth)
     where
       second : {a b : ℕ} {xs : List ℕ} → Mem b (a ∷ b ∷ xs)
       second = List·Memᴰ·tail (List·Memᴰ·head refl)
@@ -50,19 +51,23 @@ module _ {S : Type 0} (op : Ops S Figures) (most places : ℕ) (s : S) where
 
   pub back-numbers : (p : ℕ) → Mem (back op most places s p .number) (0 ∷ 4 ∷ 5 ∷ [])
   back-numbers p =
-      back-cases op places sound s p (λ o. Mem (o .number) (0 ∷ 4 ∷ 5 ∷ [])) (λ e. List·Memᴰ·tail (List·Memᴰ·tail (List·Memᴰ·head refl))) (λ e f. List·Memᴰ·tail (List·Memᴰ·head refl)) (λ e f. List·Memᴰ·head refl)
+      back-cases op places sound s p (λ o. Mem (o .number) (0 ∷ 4 ∷ 5 ∷ [])) (λ e. List·Memᴰ·tail (List·Memᴰ·tail (List·Memᴰ·head refl)))
+      (λ e f. List·Memᴰ·tail (List·Memᴰ·head refl)) (λ e f. List·Memᴰ·head refl)
 
   pub hand-refused : (size : ℕ) → hand op most places s size .number ≢ 0 → hand op most places s size .after ≡ s
   hand-refused size =
       hand-cases op places sound s size (λ o. o .number ≢ 0 → o .after ≡ s) (λ e h. refl) (λ e h. refl) (λ a b e h. refl)
-      (λ a b e. serve-cases op places sound s (roundedOf size) (λ o. o .number ≢ 0 → o .after ≡ s) (λ x t h. absurd (h refl)) (λ x c t h. absurd (h refl)) (λ c h. refl) (λ h. refl))
+      (λ a b e. serve-cases op places sound s (roundedOf size) (λ o. o .number ≢ 0 → o .after ≡ s) (λ x t h. absurd (h refl)) (λ x c t h. absurd (h refl))
+      (λ c h. refl) (λ h. refl))
 
   pub back-refused : (p : ℕ) → back op most places s p .number ≢ 0 → back op most places s p .after ≡ s
   back-refused p = back-cases op places sound s p (λ o. o .number ≢ 0 → o .after ≡ s) (λ e h. refl) (λ e f h. refl) (λ e f h. absurd (h refl))
 
-  pub hand-returned : (size : ℕ) → hand op most places s size .number ≢ 0 → (hand op most places s size .value ≡ 0) × (hand op most places s size .number ≢ 3 → hand op most places s size .compared ≡ 0)
+  pub hand-returned : (size : ℕ) → hand op most places s size .number ≢ 0
+      → (hand op most places s size .value ≡ 0) × (hand op most places s size .number ≢ 3 → hand op most places s size .compared ≡ 0)
   hand-returned size =
-      hand-cases op places sound s size (λ o. o .number ≢ 0 → (o .value ≡ 0) × (o .number ≢ 3 → o .compared ≡ 0)) (λ e h. (refl, λ n. refl)) (λ e h. (refl, λ n. refl)) (λ a b e h. (refl, λ n. refl))
+      hand-cases op places sound s size (λ o. o .number ≢ 0 → (o .value ≡ 0) × (o .number ≢ 3 → o .compared ≡ 0)) (λ e h. (refl, λ n. refl))
+      (λ e h. (refl, λ n. refl)) (λ a b e h. (refl, λ n. refl))
       (λ a b e. serve-cases op places sound s (roundedOf size) (λ o. o .number ≢ 0 → (o .value ≡ 0) × (o .number ≢ 3 → o .compared ≡ 0))
       (λ x t h. absurd (h refl)) (λ x c t h. absurd (h refl)) (λ c h. (refl, λ n. absurd (n refl))) (λ h. (refl, λ n. refl)))
 
@@ -139,15 +144,20 @@ module _ {S : Type 0} {op : Ops S Figures} {most places : ℕ} (E : Edition op m
         → (hand op most places s size .number ≡ 3 → NoFit m (roundedOf size)) × (NoFit m (roundedOf size) → hand op most places s size .number ≡ 3)
     noFit-exact size lo hi =
         on-model size (λ n v c. (n ≡ 3 → NoFit m (roundedOf size)) × (NoFit m (roundedOf size) → n ≡ 3))
-        (handM-cases m size (λ o. (o .number ≡ 3 → NoFit m (roundedOf size)) × (NoFit m (roundedOf size) → o .number ≡ 3)) (λ e. absurd (omega arith)) (λ e. absurd (omega arith))
+        (handM-cases m size (λ o. (o .number ≡ 3 → NoFit m (roundedOf size)) × (NoFit m (roundedOf size) → o .number ≡ 3)) (λ e. absurd (omega arith))
+        (λ e. absurd (omega arith))
         (λ a b. serveM-cases m (roundedOf size) (λ o. (o .number ≡ 3 → NoFit m (roundedOf size)) × (NoFit m (roundedOf size) → o .number ≡ 3))
-        (λ x ks p. (λ n. absurd (let u : _≡_ {A = ℕ} 0 3 = n in omega arith), λ f. absurd (let u : true ≡ false = sym (p .0) ∙ f .cache x (p .1) in let z : _≡_ {A = ℕ} 0 1 = cc in omega arith)))
+        (λ x ks p. (
+          λ n. absurd (let u : _≡_ {A = ℕ} 0 3 = n in omega arith),
+          λ f. absurd
+              (let u : true ≡ false = sym (p .0) ∙ f .cache x (p .1) in let z : _≡_ {A = ℕ} 0 1 = cc in omega arith),
+        ))
         (λ p x c e. (λ n. absurd (let u : _≡_ {A = ℕ} 0 3 = n in omega arith), λ f. absurd (taken x c e f)))
         (λ p c e. (λ n. record { cache = p; lists = none c e }, λ f. refl))))
       where
         none : (c : ℕ) → searchM m (roundedOf size) ≡ nowhere c → (x n : ℕ) → In (slot x n) (frees 0 (m .cs)) → n < thresholdOf (roundedOf size)
         none c e x n i = subst (λ (k : ℕ). k < thresholdOf (roundedOf size)) (slot-size (m .cs) x n (h .legal) i)
-            (none-fits (sizeM m) (m .orders) (classed s m h) (roundedOf size) c e (classOf n) x (cls6 n) (h .exact .listed x n i))
+            (none-fits (sizeM m) (m .orders) (classed s m h) (roundedOf size) c e (classOf n) x (class-below n) (h .exact .listed x n i))
 
         taken : (x c : ℕ) → searchM m (roundedOf size) ≡ at x c → NoFit m (roundedOf size) → ⊥
         taken x c e f =
@@ -164,21 +174,25 @@ module _ {S : Type 0} {op : Ops S Figures} {most places : ℕ} (E : Edition op m
         × (0 < hand op most places s size .compared → FromList m (roundedOf size) (hand op most places s size .value) (hand op most places s size .compared))
     position size =
         on-model size (λ n v c. n ≡ 0 → (c ≡ 0 → FromCache m (roundedOf size) v) × (0 < c → FromList m (roundedOf size) v c))
-        (handM-cases m size (λ o. o .number ≡ 0 → (o .compared ≡ 0 → FromCache m (roundedOf size) (o .value)) × (0 < o .compared → FromList m (roundedOf size) (o .value) (o .compared)))
+        (handM-cases m size (λ o. o .number ≡ 0 → (o .compared ≡ 0 → FromCache m (roundedOf size) (o .value)) ×
+        (0 < o .compared → FromList m (roundedOf size) (o .value) (o .compared)))
         (λ e n. absurd (let u : _≡_ {A = ℕ} 1 0 = n in omega arith)) (λ e n. absurd (let u : _≡_ {A = ℕ} 2 0 = n in omega arith))
-        (λ a b. serveM-cases m (roundedOf size) (λ o. o .number ≡ 0 → (o .compared ≡ 0 → FromCache m (roundedOf size) (o .value)) × (0 < o .compared → FromList m (roundedOf size) (o .value) (o .compared)))
+        (λ a b. serveM-cases m (roundedOf size)
+        (λ o. o .number ≡ 0 → (o .compared ≡ 0 → FromCache m (roundedOf size) (o .value)) × (0 < o .compared → FromList m (roundedOf size) (o .value) (o .compared)))
         (λ x ks p n. (λ c. record { chunk = x; cached = p .1; suits = p .0; payload = refl }, λ c. absurd (omega arith)))
         (λ p x c e n. let k = counted x c e in let d = k .3 in (λ q. absurd (omega arith), λ q. listed x c e))
         (λ p c e n. absurd (let u : _≡_ {A = ℕ} 3 0 = n in omega arith))))
       where
         counted : (x c : ℕ) → searchM m (roundedOf size) ≡ at x c → Counts (sizeM m) (roundedOf size) (searched m (roundedOf size)) 0 (at x c)
-        counted x c e = subst (Counts (sizeM m) (roundedOf size) (searched m (roundedOf size)) 0) e (find-counts (sizeM m) (roundedOf size) (searched m (roundedOf size)) 0)
+        counted x c e =
+            subst (Counts (sizeM m) (roundedOf size) (searched m (roundedOf size)) 0) e (find-counts (sizeM m) (roundedOf size) (searched m (roundedOf size)) 0)
 
         listed : (x c : ℕ) → searchM m (roundedOf size) ≡ at x c → FromList m (roundedOf size) (byteOf x + 4) c
         listed x c e =
             let k = counted x c e in
             let d = k .3 in
-            let f : Mem x (searched m (roundedOf size)) × (roundedOf size ≤ sizeM m x) = subst (Fits (sizeM m) (roundedOf size) (searched m (roundedOf size))) e (find-fits (sizeM m) (roundedOf size) (searched m (roundedOf size)) 0) in
+            let f : Mem x (searched m (roundedOf size)) × (roundedOf size ≤ sizeM m x) = subst (Fits (sizeM m) (roundedOf size) (searched m (roundedOf size))) e
+            (find-fits (sizeM m) (roundedOf size) (searched m (roundedOf size)) 0) in
             record { before = k .0; chunk = x; after = k .1; is = k .2; place = omega arith; reaches = f .1; shorter = k .4; payload = refl }
 
     -- COMPARED: at most 1 below 512, and 0 where nothing fits; from 512 on, where nothing fits, all of list 5
@@ -188,12 +202,14 @@ module _ {S : Type 0} {op : Ops S Figures} {most places : ℕ} (E : Edition op m
     pub compared-small : (size : ℕ) → roundedOf size < 512 → hand op most places s size .compared ≤ 1
     compared-small size q =
         on-model size (λ n v c. c ≤ 1) (handM-cases m size (λ o. o .compared ≤ 1) (λ e. omega arith) (λ e. omega arith)
-        (λ a b. serveM-cases m (roundedOf size) (λ o. o .compared ≤ 1) (λ x ks p. omega arith) (λ p x c e. let f : c ≡ 1 = few size q (at x c) e in omega arith) (λ p c e. let f : c ≡ 0 = few size q (nowhere c) e in omega arith)))
+        (λ a b. serveM-cases m (roundedOf size) (λ o. o .compared ≤ 1) (λ x ks p. omega arith) (λ p x c e. let f : c ≡ 1 = few size q (at x c) e in omega arith)
+        (λ p c e. let f : c ≡ 0 = few size q (nowhere c) e in omega arith)))
 
     pub compared-small-refused : (size : ℕ) → roundedOf size < 512 → hand op most places s size .number ≡ 3 → hand op most places s size .compared ≡ 0
     compared-small-refused size q =
         on-model size (λ n v c. n ≡ 3 → c ≡ 0) (handM-cases m size (λ o. o .number ≡ 3 → o .compared ≡ 0) (λ e n. refl) (λ e n. refl)
-        (λ a b. serveM-cases m (roundedOf size) (λ o. o .number ≡ 3 → o .compared ≡ 0) (λ x ks p n. refl) (λ p x c e n. absurd (let u : _≡_ {A = ℕ} 0 3 = n in omega arith)) (λ p c e n. few size q (nowhere c) e)))
+        (λ a b. serveM-cases m (roundedOf size) (λ o. o .number ≡ 3 → o .compared ≡ 0) (λ x ks p n. refl)
+        (λ p x c e n. absurd (let u : _≡_ {A = ℕ} 0 3 = n in omega arith)) (λ p c e n. few size q (nowhere c) e)))
 
     pub compared-large-refused : (size : ℕ) → 512 ≤ roundedOf size → hand op most places s size .number ≡ 3 → hand op most places s size .compared ≡ length (m .orders 5)
     compared-large-refused size q =
@@ -204,7 +220,8 @@ module _ {S : Type 0} {op : Ops S Figures} {most places : ℕ} (E : Edition op m
       where
         all : (c : ℕ) → searchM m (roundedOf size) ≡ nowhere c → c ≡ length (m .orders 5)
         all c e =
-            let k : c ≡ 0 + length (searched m (roundedOf size)) = subst (Counts (sizeM m) (roundedOf size) (searched m (roundedOf size)) 0) e (find-counts (sizeM m) (roundedOf size) (searched m (roundedOf size)) 0) in
+            let k : c ≡ 0 + length (searched m (roundedOf size)) = subst (Counts (sizeM m) (roundedOf size) (searched m (roundedOf size)) 0) e
+            (find-counts (sizeM m) (roundedOf size) (searched m (roundedOf size)) 0) in
             let l = five-listed (sizeM m) (m .orders) (classed s m h) (roundedOf size) q in
             omega arith
 
@@ -221,11 +238,13 @@ module _ {S : Type 0} {op : Ops S Figures} {most places : ℕ} (E : Edition op m
             let l = subst Legal (a .is) (h .legal) in
             let n16 : 16 ≤ a .size = (legal-back (a .pre) (busy (a .size) ∷ a .post) l) .0 in
             let b : p - 4 ≡ total (a .pre) = (let y = a .begins in omega arith) in
-            let u : usedAt (m .cs) (p - 4) ≡ a .size = ap (λ (t : ℕ). usedAt (m .cs) t) b ∙ ap (λ cs. usedAt cs (total (a .pre))) (a .is) ∙ used-there (a .pre) (a .size) (a .post) (legal-front (a .pre) (busy (a .size) ∷ a .post) l) in
+            let u : usedAt (m .cs) (p - 4) ≡ a .size = ap (λ (t : ℕ). usedAt (m .cs) t) b ∙ ap (λ cs. usedAt cs (total (a .pre))) (a .is) ∙ used-there (a .pre)
+            (a .size) (a .post) (legal-front (a .pre) (busy (a .size) ∷ a .post) l) in
             go (listed (nameOf (p - 4)) (m .figs .cached)) refl b u n16
             (rw (le-leb 4 p (let y = a .begins in omega arith)) at e)
           where
-            go : (v : Bool) → listed (nameOf (p - 4)) (m .figs .cached) ≡ v → p - 4 ≡ total (a .pre) → usedAt (m .cs) (p - 4) ≡ a .size → 16 ≤ a .size → pick v 0 (usedAt (m .cs) (p - 4)) ≡ 0 → ⊥
+            go : (v : Bool) → listed (nameOf (p - 4)) (m .figs .cached) ≡ v → p - 4 ≡ total (a .pre) → usedAt (m .cs) (p - 4) ≡ a .size → 16 ≤ a .size
+                → pick v 0 (usedAt (m .cs) (p - 4)) ≡ 0 → ⊥
             go true q b u n e = a .cold (subst (λ (t : ℕ). Mem (nameOf t) (m .figs .cached)) b (listed-true (nameOf (p - 4)) (m .figs .cached) q))
             go false q b u n e = omega arith
 
@@ -248,17 +267,22 @@ module _ {S : Type 0} {op : Ops S Figures} {most places : ℕ} (E : Edition op m
     -- A SOUND STATE IS NOT CALLED DAMAGED
     pub hand-fine : (size : ℕ) → hand op most places s size .number ≢ 5
     hand-fine size =
-        on-model size (λ n v c. n ≢ 5) (handM-cases m size (λ o. o .number ≢ 5) (λ e n. let u : _≡_ {A = ℕ} 1 5 = n in omega arith) (λ e n. let u : _≡_ {A = ℕ} 2 5 = n in omega arith)
-        (λ a b. serveM-cases m (roundedOf size) (λ o. o .number ≢ 5) (λ x ks p n. let u : _≡_ {A = ℕ} 0 5 = n in omega arith) (λ p x c e n. let u : _≡_ {A = ℕ} 0 5 = n in omega arith) (λ p c e n. let u : _≡_ {A = ℕ} 3 5 = n in omega arith)))
+        on-model size (λ n v c. n ≢ 5) (handM-cases m size (λ o. o .number ≢ 5) (λ e n. let u : _≡_ {A = ℕ} 1 5 = n in omega arith)
+        (λ e n. let u : _≡_ {A = ℕ} 2 5 = n in omega arith)
+        (λ a b. serveM-cases m (roundedOf size) (λ o. o .number ≢ 5) (λ x ks p n. let u : _≡_ {A = ℕ} 0 5 = n in omega arith)
+        (λ p x c e n. let u : _≡_ {A = ℕ} 0 5 = n in omega arith) (λ p c e n. let u : _≡_ {A = ℕ} 3 5 = n in omega arith)))
 
     pub back-fine : (p : ℕ) → back op most places s p .number ≢ 5
     back-fine p =
-        rw (back-follows s m h p .number) (backM-cases m places p (λ o. o .number ≢ 5) (λ e n. let u : _≡_ {A = ℕ} 4 5 = n in omega arith) (λ e n. let u : _≡_ {A = ℕ} 0 5 = n in omega arith))
+        rw (back-follows s m h p .number)
+        (backM-cases m places p (λ o. o .number ≢ 5) (λ e n. let u : _≡_ {A = ℕ} 4 5 = n in omega arith) (λ e n. let u : _≡_ {A = ℕ} 0 5 = n in omega arith))
 
   -- AND ONE THAT IS NOT SOUND IS
   pub hand-damaged : (s : S) (size : ℕ) → 0 < size → size ≤ 4294967284 → (Sound op most places s → ⊥) → hand op most places s size .number ≡ 5
   hand-damaged s size p q h =
-      hand-cases op places (soundᵇ op most places) s size (λ o. o .number ≡ 5) (λ e. absurd (omega arith)) (λ e. absurd (omega arith)) (λ a b e. refl) (λ a b e. absurd (h (sound-true E s e)))
+      hand-cases op places (soundᵇ op most places) s size (λ o. o .number ≡ 5) (λ e. absurd (omega arith)) (λ e. absurd (omega arith)) (λ a b e. refl)
+      (λ a b e. absurd (h (sound-true E s e)))
 
   pub back-damaged : (s : S) (p : ℕ) → (Sound op most places s → ⊥) → back op most places s p .number ≡ 5
-  back-damaged s p h = back-cases op places (soundᵇ op most places) s p (λ o. o .number ≡ 5) (λ e. refl) (λ e f. absurd (h (sound-true E s e))) (λ e f. absurd (h (sound-true E s e)))
+  back-damaged s p h =
+      back-cases op places (soundᵇ op most places) s p (λ o. o .number ≡ 5) (λ e. refl) (λ e f. absurd (h (sound-true E s e))) (λ e f. absurd (h (sound-true E s e)))

@@ -10,19 +10,17 @@ use lib.ListN.{length, getD}
 use borrow.Author.Tests.{lt-ltb, leb-true, eqb-true, le-leb, eq-eqb}
 use Rattle.words.specs.Choice.{pick}
 use Rattle.words.specs.Links.{Width, narrow, wide}
-use Rattle.rules.proofs.Widths.{WidthLaws}
+use Rattle.words.proofs.Laws.Links.{Lawful}
 use Rattle.rules.specs.Steps.{link, markFree, oneChunk}
-use Rattle.rules.proofs.Store.{LinkStore}
+use Rattle.rules.proofs.Store.{LinkStore, Edition}
 use Rattle.rules.specs.State.{ops}
 use Rattle.rules.proofs.Heap.{store}
 use Rattle.rules.proofs.Rings.{Rings, empty-rings}
-use Rattle.words.specs.Sizes.{classOf}
-use Rattle.rules.proofs.Threshold.{cls6}
 use Rattle.rules.proofs.Make.{made-whole}
 use Rattle.rules.specs.Rules.{Figures}
 use Rattle.rules.specs.Machine.{madeM}
 use Rattle.rules.specs.Sound.{Accepted, Shows}
-use Rattle.rules.proofs.Base.{Edition, shown}
+use Rattle.rules.proofs.Follow.{shown}
 use Rattle.rules.specs.Making.{selves, fresh, acceptedᵇ}
 
 pos : (most n : ℕ) → Accepted most n → 0 < n
@@ -31,7 +29,7 @@ pos most n a = omega arith
 fits : (l most n : ℕ) → most + 6 ≤ l → Accepted most n → n + 6 ≤ l
 fits l most n f a = omega arith
 
-pub edition : {W : Width} (E : WidthLaws W) (most places : ℕ) → most + 6 ≤ W .limit → Edition (ops {R = Figures} W) most places
+pub edition : {W : Width} (E : Lawful W) (most places : ℕ) → most + 6 ≤ W .limit → Edition (ops {R = Figures} W) most places
 edition {W = W} E most places f = record {
   store = λ n a. store {R = Figures} E n (pos most n a) (fits (W .limit) most n f a);
   bytes = λ n a. refl;
@@ -64,7 +62,7 @@ accepted-true most n e = go (leb 5 n) refl (leb n most) refl e
 pub true-accepted : (most n : ℕ) → Accepted most n → acceptedᵇ most n ≡ true
 true-accepted most n a = rw (le-leb 5 n (a .0), le-leb n most (a .1)) (eq-eqb (n % 2) 1 (a .2))
 
-module _ {W : Width} (E : WidthLaws W) (most places : ℕ) (f : most + 6 ≤ W .limit) (ws : List ℕ) (a : Accepted most (length ws)) where
+module _ {W : Width} (E : Lawful W) (most places : ℕ) (f : most + 6 ≤ W .limit) (ws : List ℕ) (a : Accepted most (length ws)) where
   L : LinkStore (ops {R = Figures} W)
   L = store {R = Figures} E (length ws) (pos most (length ws) a) (fits (W .limit) most (length ws) f a)
 
@@ -78,7 +76,9 @@ module _ {W : Width} (E : WidthLaws W) (most places : ℕ) (f : most + 6 ≤ W .
   made-shows =
       let h : 16 ≤ 4 * (length ws - 1) = omega arith in
       let o : 4 * (length ws - 1) % 8 ≡ 0 =
-      let k : length ws - 1 ≡ 2 * (length ws / 2) = omega arith in let j : 4 * (length ws - 1) ≡ length ws / 2 * 8 + 0 = omega arith in ap (λ (x : ℕ). x % 8) j ∙ digits-mod (length ws / 2) (lit< tt) in
-      shown (edition E most places f) (length ws) a (oneChunk (ops {R = Figures} W) (fresh ws) (4 * (length ws - 1))) (madeM (length ws)) (made-whole L h o (fresh ws) fresh-rings) (refl, tt) refl refl
+      let k : length ws - 1 ≡ 2 * (length ws / 2) = omega arith in let j : 4 * (length ws - 1) ≡ length ws / 2 * 8 + 0 = omega arith in
+      ap (λ (x : ℕ). x % 8) j ∙ digits-mod (length ws / 2) (lit< tt) in
+      shown (edition E most places f) (length ws) a (oneChunk (ops {R = Figures} W) (fresh ws) (4 * (length ws - 1))) (madeM (length ws))
+      (made-whole L h o (fresh ws) fresh-rings) (refl, tt) refl refl
       (record { used = λ x m. absurd (List·Memᴰ·not-nil m); once = tt; room = omega arith })
       (record { inUse = refl; peak = omega arith; high = omega arith; heap = omega arith; eights = refl; ends = (omega arith, tt) })

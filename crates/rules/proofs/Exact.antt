@@ -9,7 +9,7 @@ use native.Mathlib.Omega.{arith}
 use Rattle.words.specs.Choice.{pick}
 use Rattle.rules.specs.Lists.{Mem, Distinct, put}
 use Rattle.rules.proofs.Lists.{put-same, put-cases, mem-middle, gone}
-use Rattle.rules.specs.Chunks.{Chunk, free, total, Legal}
+use Rattle.rules.specs.Chunks.{Chunk, total, Legal}
 use Rattle.rules.specs.Exact.{Exact, In, Slot, frees, slot}
 
 pub frees-append : (b : ℕ) (pre cs : List Chunk) → frees b (pre ++ cs) ≡ frees b pre ++ frees (b + total pre) cs
@@ -18,7 +18,8 @@ frees-append b [] cs = rw add-zero refl
 frees-append b (c ∷ pre) cs =
     rw (frees-append (b + c .len) pre cs, add-assoc b (c .len) (total pre)) (go (c .used))
   where
-    go : (t : Bool) → pick t (frees (b + c .len) pre ++ frees (b + (c .len + total pre)) cs) (slot (b / 4 + 6) (c .len) ∷ (frees (b + c .len) pre ++ frees (b + (c .len + total pre)) cs))
+    go : (t : Bool) → pick t (frees (b + c .len) pre ++ frees (b + (c .len + total pre)) cs)
+        (slot (b / 4 + 6) (c .len) ∷ (frees (b + c .len) pre ++ frees (b + (c .len + total pre)) cs))
         ≡ pick t (frees (b + c .len) pre) (slot (b / 4 + 6) (c .len) ∷ frees (b + c .len) pre) ++ frees (b + (c .len + total pre)) cs
     go true = refl
     go false = refl
@@ -69,7 +70,9 @@ module _ (cls : ℕ → ℕ) (O : ℕ → List ℕ) (F G : List Slot) (x n : ℕ
   pub exact-remove : (ys zs : List ℕ) → O (cls n) ≡ ys ++ x ∷ zs → Distinct (ys ++ x ∷ zs) → Exact cls O (F ++ slot x n ∷ G)
       → Exact cls (put O (cls n) (ys ++ zs)) (F ++ G)
   exact-remove ys zs is d e = record {
-    listed = λ y m i. put-cases O (cls n) (ys ++ zs) (λ j xs. Mem y (O j) → Mem y xs) (λ a. keep y m i (mem-middle-cases y ys x zs (subst (λ (t : List ℕ). Mem y t) is a))) (λ j h a. a) (cls m) (e .listed y m (in-wide (slot y m) F (slot x n) G i));
+    listed = λ y m i. put-cases O (cls n) (ys ++ zs) (λ j xs. Mem y (O j) → Mem y xs)
+        (λ a. keep y m i (mem-middle-cases y ys x zs (subst (λ (t : List ℕ). Mem y t) is a))) (λ j h a. a) (cls m)
+        (e .listed y m (in-wide (slot y m) F (slot x n) G i));
     only = λ k y hk. put-cases O (cls n) (ys ++ zs) (λ j xs. j < 6 → Mem y xs → (m : ℕ) × In (slot y m) (F ++ G) × (cls m ≡ j))
         (λ hj a. let r = e .only (cls n) y hj (subst (λ (t : List ℕ). Mem y t) (sym is) (mem-middle y ys x zs a)) in
         own y a (r .0) (r .2) (in-middle (slot y (r .0)) F (slot x n) G (r .1)))

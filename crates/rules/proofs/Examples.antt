@@ -7,15 +7,15 @@
 --     hypotheses of `TwoRunsAgree` hold, the answers agree, and payload words differ to the end
 -- Assumes nothing.
 use mathlib.Core.Path.{_≡_, refl}
-use mathlib.Core.Logic.{_≢_}
 use mathlib.Core.List.{List, [], _∷_, List·Memᴰ·not-nil}
-use Prim.Native.Nat.{ℕ, _+_, _-_, _*_, _/_, _≤_, _<_}
+use Prim.Native.Nat.{ℕ, _<_}
 use native.Mathlib.Omega.{arith}
 use lib.ListN.{getD, replicate}
 use Rattle.words.specs.Sizes.{classOf}
 use Rattle.words.specs.Links.{narrow, setLinkAt}
 use Rattle.rules.specs.Ops.{Ops}
-use Rattle.rules.specs.Steps.{unlink, link, setLeft, clearLeft, markFree, markUsed, oneChunk, returnExcess, takeChunk, leftFree, rightFree, merge, merged, releaseChunk}
+use Rattle.rules.specs.Steps.{unlink, link, setLeft, clearLeft, markFree, markUsed, oneChunk, returnExcess, takeChunk, leftFree, rightFree, merge, merged}
+use Rattle.rules.specs.Steps.{releaseChunk}
 use Rattle.rules.specs.State.{ops}
 use Rattle.rules.specs.Search.{find, findWalk, inTurn, searchAll}
 use Rattle.rules.specs.Place.{lenAt, indexAt, usedAt, usedWalk}
@@ -31,7 +31,7 @@ use Rattle.rules.specs.Test.{legalᵇ, calmᵇ, tagsᵇ, segᵇ, below�
 use Rattle.rules.specs.TwoRuns.{Event, asks, writes, Acts, requests, run, answers, Allowed, replies}
 use Rattle.rules.specs.Runs.{LiveWord, Live, Same, acts, call, machine}
 use Rattle.rules.specs.Table.{Kind, base, made, after}
-use Rattle.rules.proofs.Base.{Edition}
+use Rattle.rules.proofs.Store.{Edition}
 use Rattle.rules.proofs.Runs.{follows, write-shows}
 use Rattle.rules.proofs.Proved.{narrow-edition, narrow-making, narrow-demands}
 
@@ -70,12 +70,24 @@ pub record Computed : Type 0 where
   -- free 36: 32 at 0, in use 48
   pub last-entry : (wordAt 33 eighth 0 ≡ 33) × (then 33 eighth .rest .inUse ≡ 48)
   -- the prev half of word 13, inside the merged chunk, was written by unlinking the left neighbour
-  pub left-first : (wordAt 17 (ask 12 ∷ ask 12 ∷ ask 12 ∷ give 20 ∷ give 36 ∷ []) 13 ≡ 10) × (wordAt 17 (ask 12 ∷ ask 12 ∷ ask 12 ∷ give 20 ∷ give 36 ∷ give 4 ∷ []) 13 ≡ 0)
+  pub left-first : (wordAt 17 (ask 12 ∷ ask 12 ∷ ask 12 ∷ give 20 ∷ give 36 ∷ []) 13 ≡ 10) ×
+      (wordAt 17 (ask 12 ∷ ask 12 ∷ ask 12 ∷ give 20 ∷ give 36 ∷ give 4 ∷ []) 13 ≡ 0)
   pub cached-twice : told base (made base 33) (ask 12 ∷ give 4 ∷ give 4 ∷ []) ≡ says 0 4 1 ∷ says 0 0 0 ∷ says 4 0 0 ∷ []
 
 pub computed : Computed
-unfolding call handOut takeBack live choose listed make serve fromCache fromList firstFit settled link unlink setLeft clearLeft markFree markUsed oneChunk returnExcess takeChunk leftFree rightFree merge merged releaseChunk setLinkAt classOf findWalk searchAll usedWalk usedAt soundᵇ showsᵇ candidate legalᵇ calmᵇ tagsᵇ segᵇ belowᵇ everyᵇ slotᵇ exactᵇ distinctᵇ underᵇ cacheᵇ figuresᵇ tile walk frees
-computed = record { whole-run = refl; three-freed = (refl, refl, refl); forty = (refl, refl, refl); last-entry = (refl, refl); left-first = (refl, refl); cached-twice = refl }
+unfolding call handOut takeBack live choose listed make serve fromCache fromList firstFit settled link unlink setLeft clearLeft markFree markUsed oneChunk
+    returnExcess takeChunk leftFree rightFree merge merged releaseChunk setLinkAt classOf findWalk searchAll usedWalk usedAt soundᵇ showsᵇ candidate
+    legalᵇ calmᵇ tagsᵇ segᵇ belowᵇ everyᵇ slotᵇ exactᵇ distinctᵇ underᵇ cacheᵇ figuresᵇ tile walk frees
+computed =
+    record {
+      whole-run = refl;
+      three-freed = (refl, refl, refl);
+      forty = (refl, refl, refl);
+      last-entry = (refl, refl);
+      left-first =
+          (refl, refl);
+      cached-twice = refl;
+    }
 
 -- ---- TWO RUNS
 
@@ -146,6 +158,9 @@ pub agree : (answers A es s ≡ replies (machine 1) (requests es) (madeM 33)) ×
 agree = narrow-demands 1 .runs es fs s t (madeM 33) same-requests s-shows t-shows s-allowed t-allowed
 
 -- the answers, and words of the payload at 4, live to the end
-pub differ : (answers A fs t ≡ says 0 4 1 ∷ says 0 20 1 ∷ says 0 36 1 ∷ says 0 0 0 ∷ says 0 0 0 ∷ says 4 0 0 ∷ says 0 52 1 ∷ []) × (op .word (run A es s) 2 ≡ 0) × (op .word (run A fs t) 2 ≡ 35)
-unfolding answers run call handOut takeBack live choose listed make serve fromCache fromList firstFit settled link unlink setLeft clearLeft markFree markUsed oneChunk returnExcess takeChunk leftFree rightFree merge merged releaseChunk setLinkAt classOf findWalk searchAll usedWalk usedAt soundᵇ showsᵇ candidate legalᵇ calmᵇ tagsᵇ segᵇ belowᵇ everyᵇ slotᵇ exactᵇ distinctᵇ underᵇ cacheᵇ figuresᵇ tile walk frees
+pub differ : (answers A fs t ≡ says 0 4 1 ∷ says 0 20 1 ∷ says 0 36 1 ∷ says 0 0 0 ∷ says 0 0 0 ∷ says 4 0 0 ∷ says 0 52 1 ∷ []) × (op .word (run A es s) 2 ≡ 0) ×
+    (op .word (run A fs t) 2 ≡ 35)
+unfolding answers run call handOut takeBack live choose listed make serve fromCache fromList firstFit settled link unlink setLeft clearLeft markFree markUsed
+    oneChunk returnExcess takeChunk leftFree rightFree merge merged releaseChunk setLinkAt classOf findWalk searchAll usedWalk usedAt soundᵇ showsᵇ
+    candidate legalᵇ calmᵇ tagsᵇ segᵇ belowᵇ everyᵇ slotᵇ exactᵇ distinctᵇ underᵇ cacheᵇ figuresᵇ tile walk frees
 differ = (refl, refl, refl)

@@ -39,7 +39,8 @@ out-ne (inl h) j a b e = omega arith
 out-ne (inr h) j a b e = omega arith
 
 module _ {S R : Type 0} {op : Ops S R} (L : LinkStore op) (cls : ℕ → ℕ) (cls6 : (n : ℕ) → cls n < 6) where
-  unlinked-word : (s : S) (O : ℕ → List ℕ) (cs : List Chunk) (F : List Slot) (x n i : ℕ) → Part L cls s O cs F → In (slot x n) F → Off i F → op .word (unlink op s x) i ≡ op .word s i
+  unlinked-word : (s : S) (O : ℕ → List ℕ) (cs : List Chunk) (F : List Slot) (x n i : ℕ) → Part L cls s O cs F → In (slot x n) F → Off i F
+      → op .word (unlink op s x) i ≡ op .word s i
   unlinked-word s O cs F x n i p m h =
       let a = around x (O (cls n)) (p .exact .listed x n m) in
       unlink-word L s x i
@@ -63,12 +64,14 @@ module _ {S R : Type 0} {op : Ops S R} (L : LinkStore op) (cls : ℕ → ℕ) (c
     abbrev b : ℕ
     b = 0 + total pre
 
-    freed-word : (s : S) (O : ℕ → List ℕ) (mid : List Chunk) (m i : ℕ) → total mid ≡ m → 16 ≤ m → m % 8 ≡ 0 → Part L cls s O (pre ++ (mid ++ post)) (outside L cls cls6 pre post O m)
+    freed-word : (s : S) (O : ℕ → List ℕ) (mid : List Chunk) (m i : ℕ) → total mid ≡ m → 16 ≤ m → m % 8 ≡ 0
+        → Part L cls s O (pre ++ (mid ++ post)) (outside L cls cls6 pre post O m)
         → Off i (outside L cls cls6 pre post O m) → Out (b / 4) ((b + m) / 4) i
         → op .word (link op (oneFree op s b m) (cls m) (b / 4 + 6)) i ≡ op .word s i
     unfolding oneFree
     freed-word s O mid m i em m16 m8 p h o =
-        linked-word (oneFree op s b m) O (pre ++ free m ∷ post) (outside L cls cls6 pre post O m) (b / 4) (cls m) i (b / 4) ((b + m) / 4) (free-part L cls cls6 pre post O last s mid m em m16 m8 p) h (cls6 m) o (omega arith) (omega arith)
+        linked-word (oneFree op s b m) O (pre ++ free m ∷ post) (outside L cls cls6 pre post O m) (b / 4) (cls m) i (b / 4) ((b + m) / 4)
+        (free-part L cls cls6 pre post O last s mid m em m16 m8 p) h (cls6 m) o (omega arith) (omega arith)
         ∙ L .word-setWord′ _ _ _ i (out-ne o ((b + m) / 4) (omega arith) (omega arith))
         ∙ L .word-setWord′ _ _ _ i (out-ne o ((b + m) / 4 - 1) (omega arith) (omega arith))
         ∙ L .word-setWord′ _ _ _ i (out-ne o (b / 4) (omega arith) (omega arith))
@@ -90,7 +93,8 @@ module _ {S R : Type 0} {op : Ops S R} (L : LinkStore op) (cls : ℕ → ℕ) (c
           let n8 : n % 8 ≡ 0 = l .1 in
           let g8 : g % 8 ≡ 0 = l .2 .1 in
           let p = right-off L cls cls6 pre post s O n g w in
-          freed-word (unlink op s ((b + n) / 4 + 6)) (drop O (cls g) ((b + n) / 4 + 6)) (busy n ∷ free g ∷ []) (n + g) i (omega arith) (omega arith) (omega arith) p (λ t m. h t (p .sub t m)) o
+          freed-word (unlink op s ((b + n) / 4 + 6)) (drop O (cls g) ((b + n) / 4 + 6)) (busy n ∷ free g ∷ []) (n + g) i (omega arith) (omega arith) (omega arith) p
+          (λ t m. h t (p .sub t m)) o
           ∙ unlinked-word s O (pre ++ busy n ∷ free g ∷ post) (frees 0 (pre ++ busy n ∷ free g ∷ post)) ((b + n) / 4 + 6) g i w
           (rw (frees-append 0 pre (busy n ∷ free g ∷ post)) (Memᴰ·append-right (frees 0 pre) (List·Memᴰ·head refl))) h
 
@@ -103,11 +107,13 @@ module _ {S R : Type 0} {op : Ops S R} (L : LinkStore op) (cls : ℕ → ℕ) (c
           let f8 : f % 8 ≡ 0 = l .1 in
           let n8 : n % 8 ≡ 0 = l .2 .1 in
           let p = left-off L cls cls6 pre post s O n f w in
-          freed-word (unlink op s (b / 4 + 6)) (drop O (cls f) (b / 4 + 6)) (free f ∷ busy n ∷ []) (f + n) i (omega arith) (omega arith) (omega arith) p (λ t m. h t (p .sub t m)) o
+          freed-word (unlink op s (b / 4 + 6)) (drop O (cls f) (b / 4 + 6)) (free f ∷ busy n ∷ []) (f + n) i (omega arith) (omega arith) (omega arith) p
+          (λ t m. h t (p .sub t m)) o
           ∙ unlinked-word s O (pre ++ free f ∷ busy n ∷ post) (frees 0 (pre ++ free f ∷ busy n ∷ post)) (b / 4 + 6) f i w
           (rw (frees-append 0 pre (free f ∷ busy n ∷ post)) (Memᴰ·append-right (frees 0 pre) (List·Memᴰ·head refl))) h
 
-      keep-both : (f g : ℕ) → Whole L cls cls6 s O (pre ++ free f ∷ busy n ∷ free g ∷ post) → Off i (frees 0 (pre ++ free f ∷ busy n ∷ free g ∷ post)) → Out (b / 4) ((b + (f + (n + g))) / 4) i
+      keep-both : (f g : ℕ) → Whole L cls cls6 s O (pre ++ free f ∷ busy n ∷ free g ∷ post) → Off i (frees 0 (pre ++ free f ∷ busy n ∷ free g ∷ post))
+          → Out (b / 4) ((b + (f + (n + g))) / 4) i
           → op .word (link op (oneFree op (unlink op (unlink op s (b / 4 + 6)) ((b + f + n) / 4 + 6)) b (f + (n + g))) (cls (f + (n + g))) (b / 4 + 6)) i ≡ op .word s i
       unfolding frees
       keep-both f g w h o =
@@ -118,15 +124,18 @@ module _ {S R : Type 0} {op : Ops S R} (L : LinkStore op) (cls : ℕ → ℕ) (c
           let g8 : g % 8 ≡ 0 = l .2 .2 .1 in
           let p = both-off L cls cls6 pre post s O n f g w in
           let q = first-off L cls cls6 pre post s O n f g w in
-          freed-word (unlink op (unlink op s (b / 4 + 6)) ((b + f + n) / 4 + 6)) (drop (drop O (cls f) (b / 4 + 6)) (cls g) ((b + f + n) / 4 + 6)) (free f ∷ busy n ∷ free g ∷ []) (f + (n + g)) i
+          freed-word (unlink op (unlink op s (b / 4 + 6)) ((b + f + n) / 4 + 6)) (drop (drop O (cls f) (b / 4 + 6)) (cls g) ((b + f + n) / 4 + 6))
+          (free f ∷ busy n ∷ free g ∷ []) (f + (n + g)) i
           (omega arith) (omega arith) (omega arith) p (λ t m. h t (p .sub t m)) o
-          ∙ unlinked-word (unlink op s (b / 4 + 6)) (drop O (cls f) (b / 4 + 6)) (pre ++ free f ∷ busy n ∷ free g ∷ post) (frees 0 pre ++ slot ((b + f + n) / 4 + 6) g ∷ frees (b + (f + (n + g))) post)
+          ∙ unlinked-word (unlink op s (b / 4 + 6)) (drop O (cls f) (b / 4 + 6)) (pre ++ free f ∷ busy n ∷ free g ∷ post)
+          (frees 0 pre ++ slot ((b + f + n) / 4 + 6) g ∷ frees (b + (f + (n + g))) post)
           ((b + f + n) / 4 + 6) g i q (Memᴰ·append-right (frees 0 pre) (List·Memᴰ·head refl)) (λ t m. h t (q .sub t m))
           ∙ unlinked-word s O (pre ++ free f ∷ busy n ∷ free g ∷ post) (frees 0 (pre ++ free f ∷ busy n ∷ free g ∷ post)) (b / 4 + 6) f i w
           (rw (frees-append 0 pre (free f ∷ busy n ∷ free g ∷ post)) (Memᴰ·append-right (frees 0 pre) (List·Memᴰ·head refl))) h
 
     -- TAKING leaves alone what is outside the chunk that it takes
-    pub take-keeps : (s : S) (O : ℕ → List ℕ) (n z i : ℕ) → 16 ≤ z → z % 8 ≡ 0 → Whole L cls cls6 s O (pre ++ free n ∷ post) → Off i (frees 0 (pre ++ free n ∷ post)) → Out (b / 4) ((b + n) / 4) i
+    pub take-keeps : (s : S) (O : ℕ → List ℕ) (n z i : ℕ) → 16 ≤ z → z % 8 ≡ 0 → Whole L cls cls6 s O (pre ++ free n ∷ post) → Off i (frees 0 (pre ++ free n ∷ post))
+        → Out (b / 4) ((b + n) / 4) i
         → op .word (takeStep op cls s b n z) i ≡ op .word s i
     unfolding takeStep wholeUsed cutUsed
     take-keeps s O n z i z16 z8 w h o = go (leb (z + 12) n) refl
@@ -138,11 +147,14 @@ module _ {S R : Type 0} {op : Ops S R} (L : LinkStore op) (cls : ℕ → ℕ) (c
         first = unlinked-word s O (pre ++ free n ∷ post) (frees 0 (pre ++ free n ∷ post)) (b / 4 + 6) n i w
             (rw (frees-free L cls cls6 pre post n) (Memᴰ·append-right (frees 0 pre) (List·Memᴰ·head refl))) h
 
-        go : (t : Bool) → leb (z + 12) n ≡ t → op .word (pick t (link op (cutUsed op (unlink op s (b / 4 + 6)) b n z) (cls (n - z)) ((b + z) / 4 + 6)) (wholeUsed op (unlink op s (b / 4 + 6)) b n)) i ≡ op .word s i
+        go : (t : Bool) → leb (z + 12) n ≡ t
+            → op .word (pick t (link op (cutUsed op (unlink op s (b / 4 + 6)) b n z) (cls (n - z)) ((b + z) / 4 + 6)) (wholeUsed op (unlink op s (b / 4 + 6)) b n)) i
+            ≡ op .word s i
         go true e =
             let zn : z + 16 ≤ n = (let q = leb-true (z + 12) n e in let n8 = (legal-back pre (free n ∷ post) (w .legal)) .1 in omega arith) in
             let q = cut-part L cls cls6 pre post (drop O (cls n) (b / 4 + 6)) last (unlink op s (b / 4 + 6)) n z z16 z8 zn p in
-            linked-word (cutUsed op (unlink op s (b / 4 + 6)) b n z) (drop O (cls n) (b / 4 + 6)) (pre ++ busy z ∷ free (n - z) ∷ post) (outside L cls cls6 pre post O n) ((b + z) / 4) (cls (n - z)) i (b / 4) ((b + n) / 4)
+            linked-word (cutUsed op (unlink op s (b / 4 + 6)) b n z) (drop O (cls n) (b / 4 + 6)) (pre ++ busy z ∷ free (n - z) ∷ post)
+            (outside L cls cls6 pre post O n) ((b + z) / 4) (cls (n - z)) i (b / 4) ((b + n) / 4)
             q (λ t m. h t (p .sub t m)) (cls6 (n - z)) o (omega arith) (omega arith)
             ∙ L .word-setWord′ _ _ _ i (out-ne o ((b + n) / 4 - 1) (omega arith) (omega arith))
             ∙ L .word-setWord′ _ _ _ i (out-ne o ((b + z) / 4) (omega arith) (omega arith))
@@ -191,7 +203,8 @@ module _ {S R : Type 0} {op : Ops S R} (L : LinkStore op) (cls : ℕ → ℕ) (c
             let z : 0 + total (p ++ free f ∷ []) - f ≡ 0 + total p = omega arith in
             let w′ = rw (e, asc) at w in
             let f16 : 16 ≤ f = (legal-back p (free f ∷ busy n ∷ post) (w′ .legal)) .0 in
-            rw (e, freeLast-snoc 0 p f, z) (kept-open p post f (calm-left p f (busy n ∷ post) (rw (e, asc) at k)) f16 lq w′ (rw (e, asc) at h) (rw (e, freeLast-snoc 0 p f, z) at o))
+            rw (e, freeLast-snoc 0 p f, z) (kept-open p post f (calm-left p f (busy n ∷ post) (rw (e, asc) at k)) f16 lq w′ (rw (e, asc) at h)
+            (rw (e, freeLast-snoc 0 p f, z) at o))
 
     -- RELEASING leaves alone what is outside the part that becomes free
     pub release-keeps : (pre post : List Chunk) → Calm (pre ++ busy n ∷ post) → Whole L cls cls6 s O (pre ++ busy n ∷ post) → Off i (frees 0 (pre ++ busy n ∷ post))
@@ -201,6 +214,7 @@ module _ {S R : Type 0} {op : Ops S R} (L : LinkStore op) (cls : ℕ → ℕ) (c
     release-keeps pre post k w h o =
         rw (
           left-read L cls cls6 s pre n post (w .legal) (w .tags),
-          right-read L cls cls6 s (0 + total pre + n) post ((legal-back pre (busy n ∷ post) (w .legal)) .2) ((tags-back (op .word s) 0 true pre (busy n ∷ post) (w .tags)) .2),
+          right-read L cls cls6 s (0 + total pre + n) post ((legal-back pre (busy n ∷ post) (w .legal)) .2)
+              ((tags-back (op .word s) 0 true pre (busy n ∷ post) (w .tags)) .2),
         )
         (kept pre post k w h o)

@@ -29,10 +29,12 @@ tl [] = []
 tl (c ∷ cs) = cs
 
 -- a payload is not in a free chunk
-pay-out : (b : ℕ) (X : List Chunk) (m : ℕ) (Y P : List Chunk) (k : ℕ) (Q : List Chunk) (i : ℕ) → X ++ free m ∷ Y ≡ P ++ busy k ∷ Q → (b + total P) / 4 < i → i < (b + total P + k) / 4
+pay-out : (b : ℕ) (X : List Chunk) (m : ℕ) (Y P : List Chunk) (k : ℕ) (Q : List Chunk) (i : ℕ) → X ++ free m ∷ Y ≡ P ++ busy k ∷ Q → (b + total P) / 4 < i
+    → i < (b + total P + k) / 4
     → Out ((b + total X) / 4) ((b + total X + m) / 4) i
 unfolding hd tl
-pay-out b [] m Y [] k Q i e lo hi = absurd (let q : free m ≡ busy k = ap (hd (free m)) e in let u : false ≡ true = ap (λ (c : Chunk). c .used) q in let z : _≡_ {A = ℕ} 0 1 = cc in omega arith)
+pay-out b [] m Y [] k Q i e lo hi =
+    absurd (let q : free m ≡ busy k = ap (hd (free m)) e in let u : false ≡ true = ap (λ (c : Chunk). c .used) q in let z : _≡_ {A = ℕ} 0 1 = cc in omega arith)
 pay-out b [] m Y (c ∷ P) k Q i e lo hi = let q : m ≡ c .len = ap (λ (t : List Chunk). (hd (free m) t) .len) e in inr (omega arith)
 pay-out b (c ∷ X) m Y [] k Q i e lo hi = let q : c .len ≡ k = ap (λ (t : List Chunk). (hd c t) .len) e in inl (omega arith)
 pay-out b (c ∷ X) m Y (d ∷ P) k Q i e lo hi =
@@ -63,14 +65,16 @@ module _ {S R : Type 0} {op : Ops S R} (L : LinkStore op) (cls : ℕ → ℕ) (c
     pub at : 0 + total front ≡ a
 
   module _ (s : S) (n : ℕ) where
-    shape-closed : (pre post : List Chunk) → Calm pre → usedLast pre ≡ true → Legal post → Shape (release (pre ++ busy n ∷ post) (length pre + 0)) (0 + total pre) (0 + (n + freeHead post))
+    shape-closed : (pre post : List Chunk) → Calm pre → usedLast pre ≡ true → Legal post
+        → Shape (release (pre ++ busy n ∷ post) (length pre + 0)) (0 + total pre) (0 + (n + freeHead post))
     shape-closed pre post k u l =
         right-cases L cls cls6 s (λ k. []) n (λ q g. Shape (release (pre ++ busy n ∷ q) (length pre + 0)) (0 + total pre) (0 + (n + g)))
         (λ q h lq. record { front = pre; back = q; is = rw (add-zero n, zero-add n) (merge-neither pre q n k u h); at = refl })
         (λ q g g16. record { front = pre; back = q; is = rw (zero-add (n + g)) (merge-right pre q n k u g); at = refl })
         post l
 
-    shape-open : (p post : List Chunk) (f : ℕ) → Calm p → usedLast p ≡ true → Legal post → Shape (release (p ++ free f ∷ busy n ∷ post) (length p + 1)) (0 + total p) (f + (n + freeHead post))
+    shape-open : (p post : List Chunk) (f : ℕ) → Calm p → usedLast p ≡ true → Legal post
+        → Shape (release (p ++ free f ∷ busy n ∷ post) (length p + 1)) (0 + total p) (f + (n + freeHead post))
     shape-open p post f k u l =
         right-cases L cls cls6 s (λ k. []) n (λ q g. Shape (release (p ++ free f ∷ busy n ∷ q) (length p + 1)) (0 + total p) (f + (n + g)))
         (λ q h lq. record { front = p; back = q; is = rw (add-zero n) (merge-left p q n k u f h); at = refl })

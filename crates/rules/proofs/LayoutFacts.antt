@@ -15,7 +15,7 @@ use Rattle.rules.specs.Chunks.{Chunk, free, busy, total, Legal, join, re
 use Rattle.rules.proofs.Chunks.{release-legal}
 use Rattle.rules.specs.Place.{usedAt, lenAt}
 use Rattle.rules.proofs.Place.{used-at, len-at}
-use Rattle.rules.proofs.Counters.{release-sum, taken-sum}
+use Rattle.rules.proofs.Sums.{release-sum, taken-sum}
 use Rattle.rules.proofs.Part.{legal-front}
 use Rattle.rules.specs.Sound.{Under}
 
@@ -71,7 +71,8 @@ unfolding join
 join-used c [] b p l = refl
 join-used c (d ∷ cs) b p l = go (c .used) refl (d .used) refl
   where
-    go : (u : Bool) → c .used ≡ u → (v : Bool) → d .used ≡ v → usedAt (pick (either (c .used) (d .used)) (c ∷ d ∷ cs) (free (c .len + d .len) ∷ cs)) b ≡ usedAt (c ∷ d ∷ cs) b
+    go : (u : Bool) → c .used ≡ u → (v : Bool) → d .used ≡ v
+        → usedAt (pick (either (c .used) (d .used)) (c ∷ d ∷ cs) (free (c .len + d .len) ∷ cs)) b ≡ usedAt (c ∷ d ∷ cs) b
     go true e v f = ap (λ (t : Bool). usedAt (pick (either t (d .used)) (c ∷ d ∷ cs) (free (c .len + d .len) ∷ cs)) b) e
     go false e true f =
         ap (λ (t : Bool). usedAt (pick (either t (d .used)) (c ∷ d ∷ cs) (free (c .len + d .len) ∷ cs)) b) e

@@ -3,7 +3,6 @@ pub mod Seg
 pub mod Bytes
 pub mod Store
 pub mod Rings
-pub mod Widths
 pub mod Heap
 pub mod Walk
 pub mod Chunks
@@ -22,12 +21,10 @@ pub mod Named
 pub mod Make
 pub mod Keep
 pub mod KeepLive
-pub mod Audit
-pub mod Counters
-pub mod Persist
-pub mod Threshold
+pub mod Enough
+pub mod Sums
 pub mod LayoutFacts
-pub mod Base
+pub mod Follow
 pub mod Decide
 pub mod Editions
 pub mod Exactly

@@ -1,8 +1,8 @@
 -- MAKING: one free chunk over whatever the words held is a whole heap. Assumes nothing.
 use mathlib.Core.Path.{_≡_, refl, ap, _∙_}
 use mathlib.Core.Bool.{true, false}
-use mathlib.Core.List.{List, [], _∷_, List·Memᴰ·head, List·Memᴰ·tail, List·Memᴰ·not-nil}
-use Prim.Native.Nat.{ℕ, _+_, _-_, _*_, _/_, _%_, _≤_, _<_}
+use mathlib.Core.List.{[], _∷_, List·Memᴰ·head, List·Memᴰ·tail, List·Memᴰ·not-nil}
+use Prim.Native.Nat.{ℕ, _+_, _-_, _/_, _%_, _≤_, _<_}
 use native.Mathlib.Omega.{arith}
 use Rattle.words.specs.Tags.{headerOf}
 use Rattle.words.specs.Sizes.{classOf}
@@ -13,7 +13,7 @@ use Rattle.rules.proofs.Store.{LinkStore}
 use Rattle.rules.proofs.Rings.{Rings, rings-write}
 use Rattle.rules.specs.Chunks.{free}
 use Rattle.rules.specs.Exact.{frees, Exact}
-use Rattle.rules.proofs.Threshold.{cls6}
+use Rattle.words.proofs.Laws.Sizes.{class-below}
 use Rattle.rules.proofs.Part.{Part, part-link}
 use Rattle.rules.proofs.Calls.{Whole}
 use Rattle.rules.specs.Orders.{push}
@@ -30,7 +30,8 @@ module _ {S R : Type 0} {op : Ops S R} (L : LinkStore op) (b16 : 16 ≤ L .bytes
   unfolding markFree
   tagged = record {
     rings = rings-write L s2 (λ k. []) (L .bytes / 4) 2 (off (L .bytes / 4))
-        (rings-write L s1 (λ k. []) (0 + L .bytes / 4 - 1) (L .bytes) (off (0 + L .bytes / 4 - 1)) (rings-write L s (λ k. []) 0 (headerOf (L .bytes) false true) (off 0) r));
+        (rings-write L s1 (λ k. []) (0 + L .bytes / 4 - 1) (L .bytes) (off (0 + L .bytes / 4 - 1))
+        (rings-write L s (λ k. []) 0 (headerOf (L .bytes) false true) (off 0) r));
     exact = none;
     sub = λ t m. absurd (List·Memᴰ·not-nil m);
     legal = (b16, b8, tt);
@@ -58,8 +59,9 @@ module _ {S R : Type 0} {op : Ops S R} (L : LinkStore op) (b16 : 16 ≤ L .bytes
       g2 : L .Good s2
       g2 = L .good-setWord s1 _ _ g1
 
-  pub made-whole : Whole L classOf cls6 (oneChunk op s (L .bytes)) (push (λ k. []) (classOf (L .bytes)) 6) (free (L .bytes) ∷ [])
+  pub made-whole : Whole L classOf class-below (oneChunk op s (L .bytes)) (push (λ k. []) (classOf (L .bytes)) 6) (free (L .bytes) ∷ [])
   unfolding oneChunk push frees
   made-whole =
-      part-link L classOf cls6 (op .setWord (markFree op s 0 (L .bytes)) (L .bytes / 4) 2) (λ k. []) (free (L .bytes) ∷ []) [] [] 6 (L .bytes) (λ t m e. List·Memᴰ·not-nil m)
+      part-link L classOf class-below (op .setWord (markFree op s 0 (L .bytes)) (L .bytes / 4) 2) (λ k. []) (free (L .bytes) ∷ []) [] [] 6 (L .bytes)
+      (λ t m e. List·Memᴰ·not-nil m)
       (List·Memᴰ·head refl) (L .fit 0 refl b16) (omega arith) tagged

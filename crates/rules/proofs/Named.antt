@@ -1,13 +1,14 @@
 -- CHUNKS BY NAME: the length that a header gives is the layout's, and a heap has few chunks: one for 16 bytes at most, and no more listed. Assumes nothing.
-use mathlib.Core.Path.{_≡_, refl, sym, ap, _∙_, subst}
+use mathlib.Core.Path.{_≡_, sym, ap, _∙_, subst}
 use mathlib.Core.Bool.{Bool, true, false}
 use mathlib.Core.List.{List, [], _∷_, _++_, List·Memᴰ·head, List·Memᴰ·tail, List·Memᴰ·not-nil}
-use Prim.Native.Nat.{ℕ, zero, suc, _+_, _-_, _*_, _/_, _%_, _≤_, _<_}
+use Prim.Native.Nat.{ℕ, suc, _+_, _-_, _*_, _/_, _≤_, _<_}
 use native.Mathlib.Omega.{arith}
 use native.Mathlib.Nat.{zero-add}
 use lib.ListN.{length}
+use Rattle.words.proofs.Laws.Choice.{bit-small}
 use Rattle.words.specs.Choice.{pick, bit}
-use Rattle.rules.specs.Lists.{Mem, Distinct}
+use Rattle.rules.specs.Lists.{Mem}
 use Rattle.rules.specs.Ops.{Ops}
 use Rattle.rules.specs.Steps.{lengthAt}
 use Rattle.rules.proofs.Store.{LinkStore}
@@ -20,7 +21,7 @@ use Rattle.rules.specs.Search.{inTurn}
 use Rattle.rules.proofs.Search.{in-turn, turn-distinct, no-more}
 use Rattle.rules.specs.Rules.{byteOf}
 use Rattle.rules.specs.Place.{lenAt}
-use Rattle.rules.proofs.Place.{free-at, len-at, header-len, bit-le}
+use Rattle.rules.proofs.Place.{free-at, len-at, header-len}
 
 pub chunks-few : (cs : List Chunk) → Legal cs → 16 * length cs ≤ total cs
 chunks-few [] l = omega arith
@@ -56,7 +57,8 @@ module _ {S R : Type 0} {op : Ops S R} (L : LinkStore op) (cls : ℕ → ℕ) (c
       let l = legal-back pre (free n ∷ post) (w .legal) in
       let t = tags-back (op .word s) 0 true pre (free n ∷ post) (w .tags) in
       let q : x - 6 ≡ (0 + total pre) / 4 = omega arith in
-      ap (λ (i : ℕ). op .word s i / 4 * 4) q ∙ header-len (op .word s ((0 + total pre) / 4)) n 0 (bit (lastUsed true pre)) (l .1) (omega arith) (bit-le (lastUsed true pre)) (t .0)
+      ap (λ (i : ℕ). op .word s i / 4 * 4) q ∙ header-len (op .word s ((0 + total pre) / 4)) n 0 (bit (lastUsed true pre)) (l .1) (omega arith)
+      (bit-small (lastUsed true pre)) (t .0)
 
   module _ (cs : List Chunk) (w : Whole L cls cls6 s O cs) where
     pub size-same : (j : ℕ) → j < 6 → (x : ℕ) → Mem x (O j) → lengthAt op s x ≡ lenAt cs (byteOf x)
@@ -66,7 +68,8 @@ module _ {S R : Type 0} {op : Ops S R} (L : LinkStore op) (cls : ℕ → ℕ) (c
         let w′ = subst (λ ds. Whole L cls cls6 s O ds) (f .is) w in
         let lp = legal-front (f .pre) (free (r .0) ∷ f .post) (w′ .legal) in
         size-at (f .pre) (r .0) (f .post) x (f .named) w′
-        ∙ sym (ap (λ ds. lenAt ds (byteOf x)) (f .is) ∙ len-at (f .pre) (free (r .0)) (f .post) (byteOf x) lp (byte-at (f .pre) x lp (f .named) ∙ zero-add (total (f .pre))))
+        ∙ sym (ap (λ ds. lenAt ds (byteOf x)) (f .is) ∙ len-at (f .pre) (free (r .0)) (f .post) (byteOf x) lp
+        (byte-at (f .pre) x lp (f .named) ∙ zero-add (total (f .pre))))
 
     -- how many chunks a list can hold, and all lists together
     pub order-few : (j : ℕ) → j < 6 → length (O j) ≤ length cs

@@ -5,14 +5,14 @@ use mathlib.Core.Path.{_≡_, refl, sym, subst}
 use mathlib.Core.Logic.{_⊎_, inl, inr}
 use mathlib.Core.Bool.{Bool, true}
 use mathlib.Core.List.{List, [], _∷_, _++_, List·Memᴰ·head, List·Memᴰ·tail, Memᴰ·append-left, Memᴰ·append-right, List·Memᴰ·append-cases}
-use Prim.Native.Nat.{ℕ, _+_, _-_, _/_, _≤_, _<_}
+use Prim.Native.Nat.{ℕ, _+_, _/_, _≤_, _<_}
 use native.Mathlib.Omega.{arith}
 use Rattle.rules.specs.Lists.{Mem, put}
 use Rattle.rules.specs.Ops.{Ops}
 use Rattle.rules.specs.Steps.{link, unlink}
 use Rattle.rules.proofs.Store.{LinkStore}
 use Rattle.rules.proofs.Rings.{Rings, link-rings, unlink-rings, ring-next, link-word, unlink-word, rings-write, prev-on, next-on}
-use Rattle.rules.specs.Chunks.{Chunk, free, total, Legal}
+use Rattle.rules.specs.Chunks.{Chunk, total, Legal}
 use Rattle.rules.proofs.Chunks.{total-append}
 use Rattle.rules.specs.Exact.{Slot, slot, In, frees, Exact}
 use Rattle.rules.proofs.Exact.{frees-append, frees-from, Alone, exact-remove, exact-add, in-middle, in-wide}
@@ -49,7 +49,8 @@ module _ {S R : Type 0} {op : Ops S R} (L : LinkStore op) (cls : ℕ → ℕ) (c
       let b = L .owns x i o in let r = e .only k x hk m in h (slot x (r .0)) (r .1) (b .1) (b .2)
 
   module _ (s : S) (O : ℕ → List ℕ) (cs : List Chunk) (F G : List Slot) (x n : ℕ) (alone : Alone x (F ++ G)) where
-    pub part-unlink : (ys zs : List ℕ) → O (cls n) ≡ ys ++ x ∷ zs → Part L cls s O cs (F ++ slot x n ∷ G) → Part L cls (unlink op s x) (put O (cls n) (ys ++ zs)) cs (F ++ G)
+    pub part-unlink : (ys zs : List ℕ) → O (cls n) ≡ ys ++ x ∷ zs → Part L cls s O cs (F ++ slot x n ∷ G)
+        → Part L cls (unlink op s x) (put O (cls n) (ys ++ zs)) cs (F ++ G)
     part-unlink ys zs is p = record {
       rings = unlink-rings L s O (p .rings) (cls n) ys x zs (cls6 n) is;
       exact = exact-remove cls O F G x n alone ys zs is (rw is at (p .rings .once (cls n) (cls6 n))) (p .exact);
@@ -63,7 +64,8 @@ module _ {S R : Type 0} {op : Ops S R} (L : LinkStore op) (cls : ℕ → ℕ) (c
           (p .tags);
     }
 
-    pub part-link : In (slot x n) (frees 0 cs) → L .Node x → 6 ≤ x → Part L cls s O cs (F ++ G) → Part L cls (link op s (cls n) x) (put O (cls n) (x ∷ O (cls n))) cs (F ++ slot x n ∷ G)
+    pub part-link : In (slot x n) (frees 0 cs) → L .Node x → 6 ≤ x → Part L cls s O cs (F ++ G)
+        → Part L cls (link op s (cls n) x) (put O (cls n) (x ∷ O (cls n))) cs (F ++ slot x n ∷ G)
     part-link there nx h6 p = record {
       rings = link-rings L s O (p .rings) (cls n) x (cls6 n) nx h6 (λ j hj m. let r = p .exact .only j x hj m in alone (slot x (r .0)) (r .1) refl);
       exact = exact-add cls O F G x n alone (p .exact);
@@ -124,7 +126,9 @@ module _ {S R : Type 0} {op : Ops S R} (L : LinkStore op) (cls : ℕ → ℕ) (c
       size = let q = p .size in
           let x = total-append pre (mid′ ++ post) in let y = total-append mid′ post in let z = total-append mid post in let w = total-append pre (mid ++ post) in
           omega arith;
-      tags = tags-join (op .word s′) 0 true pre (mid′ ++ post) (front-below (op .word s) (op .word s′) 0 true pre lp low (tags-front (op .word s) 0 true pre (mid ++ post) (p .tags)))
+      tags =
+          tags-join (op .word s′) 0 true pre (mid′ ++ post)
+          (front-below (op .word s) (op .word s′) 0 true pre lp low (tags-front (op .word s) 0 true pre (mid ++ post) (p .tags)))
           (tags-join (op .word s′) b l mid′ post reg
           (rw e (tags-left (op .word s) (op .word s′) (b + m) (lastUsed l mid) (lastUsed l mid′) post lq hd high
           (rw em at (tags-back (op .word s) b l mid post (tags-back (op .word s) 0 true pre (mid ++ post) (p .tags)))))));

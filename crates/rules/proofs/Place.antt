@@ -4,12 +4,13 @@ use mathlib.Core.Logic.{_≢_}
 use mathlib.Core.Bool.{Bool, true, false}
 use mathlib.Core.List.{List, [], _∷_, _++_, List·Memᴰ·head, List·Memᴰ·tail, List·Memᴰ·not-nil}
 use Prim.Native.Nat.{ℕ, zero, suc, _+_, _-_, _*_, _/_, _%_, _≤_, _<_}
-use native.Mathlib.Nat.{not-suc-le-zero, le-of-suc-le-suc, add-zero}
+use native.Mathlib.Nat.{not-suc-le-zero, le-of-suc-le-suc, add-zero, sub-zero}
 use native.Mathlib.Omega.{arith}
 use lib.Dec.{eqb, leb}
 use lib.Arith.{digits-mod}
 use lib.ListN.{length}
-use borrow.Author.Tests.{eq-eqb, ne-eqb, eqb-true, leb-true}
+use borrow.Author.Tests.{eq-eqb, ne-eqb, eqb-true, leb-true, le-leb}
+use Rattle.words.proofs.Laws.Choice.{bit-small}
 use Rattle.words.specs.Choice.{pick, bit}
 use Rattle.rules.specs.Chunks.{Chunk, free, busy, total, Legal}
 use Rattle.rules.specs.Exact.{Slot, slot, In, frees}
@@ -65,20 +66,16 @@ header-used h n u l n8 hu hl e =
     let k : h / 2 ≡ 2 * (n / 8) * 2 + u = omega arith in
     ap (λ (x : ℕ). x % 2) k ∙ digits-mod (2 * (n / 8)) (omega arith)
 
-pub bit-le : (b : Bool) → bit b ≤ 1
-bit-le true = omega arith
-bit-le false = omega arith
-
 pub used-walk : (f : ℕ → ℕ) (fuel e : ℕ) (l : Bool) (cs : List Chunk) (b : ℕ) → Legal cs → length cs < fuel → Tags f e l cs → usedWalk f fuel e b ≡ usedAt cs b
 unfolding usedWalk usedAt
 used-walk f zero e l cs b g h t = absurd (not-suc-le-zero h)
 used-walk f (suc fuel) e l [] b g h t =
-    let k = bit-le l in
+    let k = bit-small l in
     let z : f (e / 4) / 4 * 4 ≡ 0 = header-len (f (e / 4)) 0 1 (bit l) refl (omega arith) k (let q : f (e / 4) ≡ 2 + bit l = t in omega arith) in
     rw z refl
 used-walk f (suc fuel) e l (c ∷ cs) b g h t =
-    let kl = bit-le l in
-    let ku = bit-le (c .used) in
+    let kl = bit-small l in
+    let ku = bit-small (c .used) in
     let n16 : 16 ≤ c .len = g .0 in
     let z : f (e / 4) / 4 * 4 ≡ c .len = header-len (f (e / 4)) (c .len) (bit (c .used)) (bit l) (g .1) ku kl (t .0) in
     let u : f (e / 4) / 2 % 2 ≡ bit (c .used) = header-used (f (e / 4)) (c .len) (bit (c .used)) (bit l) (g .1) ku kl (t .0) in
@@ -114,3 +111,12 @@ used-at (c ∷ cs) b h = go (eqb b 0) refl (c .used) refl (leb (c .len) b) refl 
         let h = leb-true (c .len) b g in
         let y = q .byte in
         record { pre = c ∷ q .pre; post = q .post; is = ap (λ (x : List Chunk). c ∷ x) (q .is); byte = omega arith }
+
+-- a used chunk past a front part
+pub used-skip : (pre cs : List Chunk) (c : ℕ) → Legal pre → total pre ≤ c → usedAt (pre ++ cs) c ≡ usedAt cs (c - total pre)
+unfolding usedAt
+used-skip [] cs c l h = ap (usedAt cs) (sym (sub-zero c))
+used-skip (d ∷ pre) cs c l h =
+    let a = l .0 in
+    let e : c - d .len - total pre ≡ c - (d .len + total pre) = omega arith in
+    rw (ne-eqb c 0 (omega arith), le-leb (d .len) c (omega arith)) (used-skip pre cs (c - d .len) (l .2) (omega arith) ∙ ap (usedAt cs) e)

@@ -16,11 +16,13 @@ use Rattle.rules.specs.Making.{State, acceptedᵇ, make, empty, fresh}
 use Rattle.rules.specs.Machine.{madeM}
 use Rattle.rules.specs.Sound.{Accepted, Shows}
 use Rattle.rules.specs.Claims.{Iff, Demands, MakingSound}
-use Rattle.rules.proofs.Widths.{WidthLaws, narrow-laws, wide-laws}
-use Rattle.rules.proofs.Base.{Edition}
+use Rattle.words.proofs.Laws.Links.{Lawful, narrow-lawful, wide-lawful}
+use Rattle.rules.proofs.Store.{Edition}
 use Rattle.rules.proofs.Decide.{sound-true, true-sound, layout-unique, orders-unique, figures-unique}
 use Rattle.rules.proofs.Editions.{edition, narrow-fits, wide-fits, made-shows, accepted-true, true-accepted}
-use Rattle.rules.proofs.Demands.{hand-numbers, back-numbers, hand-refused, back-refused, hand-returned, back-returned, hand-zero, hand-large, hand-sound, back-sound, hand-fine, back-fine, hand-damaged, back-damaged, noFit-exact, notLive-exact, position, compared-small, compared-small-refused, compared-large-refused}
+use Rattle.rules.proofs.Demands.{hand-numbers, back-numbers, hand-refused, back-refused, hand-returned, back-returned, hand-zero, hand-large, hand-sound}
+use Rattle.rules.proofs.Demands.{back-sound, hand-fine, back-fine, hand-damaged, back-damaged, noFit-exact, notLive-exact, position, compared-small}
+use Rattle.rules.proofs.Demands.{compared-small-refused, compared-large-refused}
 use Rattle.rules.proofs.Runs.{runs-agree, run-follows, payload-kept}
 
 pub demands : {S : Type 0} {op : Ops S Figures} {most places : ℕ} → Edition op most places → Demands op most places
@@ -47,10 +49,10 @@ demands {op = op} {most = most} {places = places} E = record {
 
 -- BOTH WIDTHS
 pub narrow-edition : (places : ℕ) → Edition (ops {R = Figures} narrow) 65529 places
-narrow-edition places = edition narrow-laws 65529 places narrow-fits
+narrow-edition places = edition narrow-lawful 65529 places narrow-fits
 
 pub wide-edition : (places : ℕ) → Edition (ops {R = Figures} wide) 4194303 places
-wide-edition places = edition wide-laws 4194303 places wide-fits
+wide-edition places = edition wide-lawful 4194303 places wide-fits
 
 pub narrow-demands : (places : ℕ) → Demands (ops {R = Figures} narrow) 65529 places
 narrow-demands places = demands (narrow-edition places)
@@ -59,7 +61,7 @@ pub wide-demands : (places : ℕ) → Demands (ops {R = Figures} wide) 4194303 p
 wide-demands places = demands (wide-edition places)
 
 -- MAKING
-module _ {W : Width} (E : WidthLaws W) (most places : ℕ) (f : most + 6 ≤ W .limit) where
+module _ {W : Width} (E : Lawful W) (most places : ℕ) (f : most + 6 ≤ W .limit) where
   abbrev Made : List ℕ → Outcome State → Type 0
   Made ws o = Iff (o .number ≡ 0) (Accepted most (length ws)) × (o .number ≡ 0 → Shows (ops W) most places (o .after) (madeM (length ws)))
       × (o .number ≢ 0 → (o .number ≡ 6) × (o .after ≡ empty ws))
@@ -80,7 +82,7 @@ module _ {W : Width} (E : WidthLaws W) (most places : ℕ) (f : most + 6 ≤ W .
           no q = let z : _≡_ {A = ℕ} 0 1 = cc in omega arith
 
 pub narrow-making : (places : ℕ) → MakingSound narrow 65529 places
-narrow-making places = making narrow-laws 65529 places narrow-fits
+narrow-making places = making narrow-lawful 65529 places narrow-fits
 
 pub wide-making : (places : ℕ) → MakingSound wide 4194303 places
-wide-making places = making wide-laws 4194303 places wide-fits
+wide-making places = making wide-lawful 4194303 places wide-fits

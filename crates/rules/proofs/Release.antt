@@ -1,4 +1,4 @@
--- Releasing as the code does it, reading its neighbours from the tags, is releasing on the layout. Assumes nothing.
+-- Releasing as the rules do it, reading its neighbours from the tags, is releasing on the layout. Assumes nothing.
 use mathlib.Core.Path.{_≡_, refl, sym, ap, _∙_, subst}
 use mathlib.Core.Bool.{Bool, true, false}
 use mathlib.Core.List.{List, [], _∷_, _++_, append-assoc}
@@ -14,7 +14,7 @@ use Rattle.rules.specs.Ops.{Ops}
 use Rattle.rules.specs.Steps.{leftFree, rightFree, merge}
 use Rattle.rules.proofs.Bytes.{mergeStep, releaseStep}
 use Rattle.rules.proofs.Store.{LinkStore}
-use Rattle.rules.specs.Chunks.{Chunk, free, busy, total, usedHead, Legal, Calm, release, either}
+use Rattle.rules.specs.Chunks.{Chunk, free, busy, total, usedHead, Legal, Calm, release}
 use Rattle.rules.proofs.Chunks.{total-append, usedLast, merge-neither, merge-right, merge-left, merge-both}
 use Rattle.rules.specs.Tags.{Tags}
 use Rattle.rules.proofs.Tags.{lastUsed, last-used, calm-front, calm-last, tags-back}
@@ -49,36 +49,43 @@ module _ {S R : Type 0} {op : Ops S R} (L : LinkStore op) (cls : ℕ → ℕ) (c
   Refined : List Chunk → List Chunk → ℕ → ℕ → ℕ → Type 0
   Refined pre post a f g = Whole L cls cls6 (mergeStep op cls s a f n g) (mergedOrders cls O a f n g) (release (pre ++ busy n ∷ post) (length pre))
 
-  at-neither : (pre post : List Chunk) → Calm pre → usedLast pre ≡ true → usedHead post ≡ true → Whole L cls cls6 s O (pre ++ busy n ∷ post) → Refined pre post (0 + total pre) 0 0
+  at-neither : (pre post : List Chunk) → Calm pre → usedLast pre ≡ true → usedHead post ≡ true → Whole L cls cls6 s O (pre ++ busy n ∷ post)
+      → Refined pre post (0 + total pre) 0 0
   unfolding Refined mergeStep mergedOrders merge
   at-neither pre post k u h w =
       let e = merge-neither pre post n k u h in
       rw (← (add-zero (length pre)), e, add-zero n, zero-add n) (release-neither L cls cls6 pre post s O n (last-used pre u) w)
 
-  at-right : (pre post : List Chunk) (g : ℕ) → 16 ≤ g → Calm pre → usedLast pre ≡ true → Whole L cls cls6 s O (pre ++ busy n ∷ free g ∷ post) → Refined pre (free g ∷ post) (0 + total pre) 0 g
+  at-right : (pre post : List Chunk) (g : ℕ) → 16 ≤ g → Calm pre → usedLast pre ≡ true → Whole L cls cls6 s O (pre ++ busy n ∷ free g ∷ post)
+      → Refined pre (free g ∷ post) (0 + total pre) 0 g
   unfolding Refined mergeStep mergedOrders merge
   at-right pre post g g16 k u w =
       let e = merge-right pre post n k u g in
-      rw (← (add-zero (length pre)), e, lt-ltb 0 g (omega arith), ne-eqb g 0 (omega arith), zero-add (n + g), add-zero (0 + total pre)) (release-right L cls cls6 pre post s O n (last-used pre u) g w)
+      rw (← (add-zero (length pre)), e, lt-ltb 0 g (omega arith), ne-eqb g 0 (omega arith), zero-add (n + g), add-zero (0 + total pre))
+      (release-right L cls cls6 pre post s O n (last-used pre u) g w)
 
   -- the front part ends in a free chunk of f bytes: stated with p, what is before that chunk
   Refined′ : List Chunk → List Chunk → ℕ → ℕ → ℕ → Type 0
   Refined′ p post a f g = Whole L cls cls6 (mergeStep op cls s a f n g) (mergedOrders cls O a f n g) (release (p ++ free f ∷ busy n ∷ post) (length p + 1))
 
-  at-left : (p post : List Chunk) (f : ℕ) → 16 ≤ f → Calm p → usedLast p ≡ true → usedHead post ≡ true → Whole L cls cls6 s O (p ++ free f ∷ busy n ∷ post) → Refined′ p post (0 + total p) f 0
+  at-left : (p post : List Chunk) (f : ℕ) → 16 ≤ f → Calm p → usedLast p ≡ true → usedHead post ≡ true → Whole L cls cls6 s O (p ++ free f ∷ busy n ∷ post)
+      → Refined′ p post (0 + total p) f 0
   unfolding Refined′ mergeStep mergedOrders merge
   at-left p post f f16 k u h w =
       let e = merge-left p post n k u f h in
       rw (e, lt-ltb 0 f (omega arith), ne-eqb f 0 (omega arith), add-zero n) (release-left L cls cls6 p post s O n (last-used p u) f w)
 
-  at-both : (p post : List Chunk) (f g : ℕ) → 16 ≤ f → 16 ≤ g → Calm p → usedLast p ≡ true → Whole L cls cls6 s O (p ++ free f ∷ busy n ∷ free g ∷ post) → Refined′ p (free g ∷ post) (0 + total p) f g
+  at-both : (p post : List Chunk) (f g : ℕ) → 16 ≤ f → 16 ≤ g → Calm p → usedLast p ≡ true → Whole L cls cls6 s O (p ++ free f ∷ busy n ∷ free g ∷ post)
+      → Refined′ p (free g ∷ post) (0 + total p) f g
   unfolding Refined′ mergeStep mergedOrders merge
   at-both p post f g f16 g16 k u w =
       let e = merge-both p post n k u f g in
-      rw (e, lt-ltb 0 f (omega arith), lt-ltb 0 g (omega arith), ne-eqb f 0 (omega arith), ne-eqb g 0 (omega arith)) (release-both L cls cls6 p post s O n (last-used p u) f g w)
+      rw (e, lt-ltb 0 f (omega arith), lt-ltb 0 g (omega arith), ne-eqb f 0 (omega arith), ne-eqb g 0 (omega arith))
+      (release-both L cls cls6 p post s O n (last-used p u) f g w)
 
   -- by what stands on the right
-  pub right-cases : (P : List Chunk → ℕ → Type 0) → ((post : List Chunk) → usedHead post ≡ true → Legal post → P post 0) → ((post : List Chunk) (g : ℕ) → 16 ≤ g → P (free g ∷ post) g)
+  pub right-cases : (P : List Chunk → ℕ → Type 0) → ((post : List Chunk) → usedHead post ≡ true → Legal post → P post 0)
+      → ((post : List Chunk) (g : ℕ) → 16 ≤ g → P (free g ∷ post) g)
       → (post : List Chunk) → Legal post → P post (freeHead post)
   right-cases P a b [] l = a [] refl l
   right-cases P a b (c ∷ post) l = go (c .used) refl
@@ -148,7 +155,8 @@ module _ {S R : Type 0} {op : Ops S R} (L : LinkStore op) (cls : ℕ → ℕ) (c
           let z : op .word s (e / 4) / 4 * 4 ≡ c .len = omega arith in
           rw (eq-eqb (op .word s (e / 4) / 2 % 2) 0 (omega arith)) (z ∙ ap (λ (u : Bool). pick u 0 (c .len)) (sym v))
 
-  pub left-read : (pre : List Chunk) (n : ℕ) (post : List Chunk) → Legal (pre ++ busy n ∷ post) → Tags (op .word s) 0 true (pre ++ busy n ∷ post) → leftFree op s ((0 + total pre) / 4) ≡ freeLast 0 pre
+  pub left-read : (pre : List Chunk) (n : ℕ) (post : List Chunk) → Legal (pre ++ busy n ∷ post) → Tags (op .word s) 0 true (pre ++ busy n ∷ post)
+      → leftFree op s ((0 + total pre) / 4) ≡ freeLast 0 pre
   unfolding leftFree
   left-read pre n post l t = go (ends pre)
     where
@@ -175,7 +183,8 @@ module _ {S R : Type 0} {op : Ops S R} (L : LinkStore op) (cls : ℕ → ℕ) (c
 
   -- RELEASE REFINES, as the code does it: the state's step shows the layout's release, whatever the link width
   pub release-refines : (O : ℕ → List ℕ) (pre : List Chunk) (n : ℕ) (post : List Chunk) → Calm (pre ++ busy n ∷ post) → Whole L cls cls6 s O (pre ++ busy n ∷ post)
-      → Whole L cls cls6 (releaseStep op cls s (0 + total pre) n) (mergedOrders cls O (0 + total pre - freeLast 0 pre) (freeLast 0 pre) n (freeHead post)) (release (pre ++ busy n ∷ post) (length pre))
+      → Whole L cls cls6 (releaseStep op cls s (0 + total pre) n) (mergedOrders cls O (0 + total pre - freeLast 0 pre) (freeLast 0 pre) n (freeHead post))
+      (release (pre ++ busy n ∷ post) (length pre))
   unfolding releaseStep
   release-refines O pre n post k w =
       rw (

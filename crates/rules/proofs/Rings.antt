@@ -6,7 +6,7 @@ use mathlib.Core.List.{List, [], _∷_, _++_, List·Memᴰ·head, List·Memᴰ·
 use Prim.Native.Nat.{ℕ, _≤_, _<_}
 use native.Mathlib.Omega.{arith}
 use Rattle.rules.specs.Lists.{Mem, Distinct, put, Seg}
-use Rattle.rules.proofs.Lists.{put-cases, mem-middle, mem-at, distinct-middle, gone}
+use Rattle.rules.proofs.Lists.{put-cases, mem-middle, distinct-middle}
 use Rattle.rules.proofs.Seg.{seg-frame, seg-fst, seg-snd, seg-head, seg-last, link-seg, unlink-seg}
 use Rattle.rules.specs.Ops.{Ops}
 use Rattle.rules.specs.Steps.{link, unlink}
@@ -257,12 +257,6 @@ module _ {S R : Type 0} {op : Ops S R} (L : LinkStore op) where
           rings-put (unlink op s c) k (ys ++ zs) unlink-good un-own un-other (λ x m. r .node k hk x (kept x m)) (distinct-middle ys c zs (d .1))
           (λ j x jk hj m n. jk (r .apart j k x hj hk n (kept x m)))
 
-      -- and c is then on no list
-      pub unlink-fresh : (j : ℕ) → j < 6 → Mem c (put O k (ys ++ zs) j) → ⊥
-      unlink-fresh =
-          put-cases O k (ys ++ zs) (λ j xs. j < 6 → Mem c xs → ⊥) (λ h. gone ys c zs (d .1))
-          (λ j jk hj m. jk (r .apart j k c hj hk m (subst (λ (t : List ℕ). Mem c t) (sym is) (mem-at ys c zs))))
-
   -- MAKING: sentinels that name themselves are six empty lists
   pub empty-rings : (s : S) → L .Good s → ((k : ℕ) → k < 6 → op .next s k ≡ k) → ((k : ℕ) → k < 6 → op .prev s k ≡ k) → Rings L s (λ k. [])
   empty-rings s g n p = record {
@@ -279,17 +273,9 @@ module _ {S R : Type 0} {op : Ops S R} (L : LinkStore op) where
   link-word s k c i hk hn hc =
       L .word-setPrev _ c k i hc ∙ L .word-setNext _ c (op .next s k) i hc ∙ L .word-setPrev _ (op .next s k) c i hn ∙ L .word-setNext s k c i hk
 
-  pub link-rest : (s : S) (k c : ℕ) → op .rest (link op s k c) ≡ op .rest s
-  unfolding link
-  link-rest s k c = L .rest-setPrev _ c k ∙ L .rest-setNext _ c (op .next s k) ∙ L .rest-setPrev _ (op .next s k) c ∙ L .rest-setNext s k c
-
   pub unlink-word : (s : S) (c i : ℕ) → (L .Owns (op .prev s c) i → ⊥) → (L .Owns (op .next s c) i → ⊥) → op .word (unlink op s c) i ≡ op .word s i
   unfolding unlink
   unlink-word s c i hp hn = L .word-setPrev _ (op .next s c) (op .prev s c) i hn ∙ L .word-setNext s (op .prev s c) (op .next s c) i hp
-
-  pub unlink-rest : (s : S) (c : ℕ) → op .rest (unlink op s c) ≡ op .rest s
-  unfolding unlink
-  unlink-rest s c = L .rest-setPrev _ (op .next s c) (op .prev s c) ∙ L .rest-setNext s (op .prev s c) (op .next s c)
 
   -- A WORD that no listed chunk keeps links in is written: a tag, or a task's store into its payload
   pub rings-write : (s : S) (O : ℕ → List ℕ) (i v : ℕ) → ((k x : ℕ) → k < 6 → Mem x (k ∷ O k) → L .Owns x i → ⊥) → Rings L s O → Rings L (op .setWord s i v) O

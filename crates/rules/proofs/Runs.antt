@@ -14,7 +14,7 @@ use Rattle.rules.specs.Lists.{Mem}
 use Rattle.rules.proofs.Seg.{seg-agree}
 use Rattle.rules.specs.Ops.{Ops}
 use Rattle.rules.specs.Steps.{lengthAt, takeChunk, releaseChunk, oneChunk}
-use Rattle.rules.proofs.Bytes.{takeStep, releaseStep, take-words, release-words}
+use Rattle.rules.proofs.Bytes.{releaseStep, take-words, release-words}
 use Rattle.rules.specs.Chunks.{Chunk, free, busy, total, Calm, release}
 use Rattle.rules.specs.Exact.{slot}
 use Rattle.rules.proofs.Tags.{tags-agree, calm-left}
@@ -28,18 +28,20 @@ use Rattle.rules.proofs.Search.{find-fits, Fits}
 use Rattle.rules.specs.Place.{indexAt, usedAt}
 use Rattle.rules.proofs.Place.{free-at, index-at, used-at}
 use Rattle.rules.proofs.Named.{size-at, byte-at}
-use Rattle.words.specs.Sizes.{classOf, roundedOf, startOf}
-use Rattle.rules.proofs.Threshold.{cls6}
+use Rattle.words.specs.Sizes.{classOf, roundedOf}
+use Rattle.words.proofs.Laws.Sizes.{class-below}
 use Rattle.rules.specs.TwoRuns.{Event, requests, run, answers, Allowed, replies, steps}
 use Rattle.rules.specs.TwoRuns as two
 use Rattle.rules.proofs.TwoRun.{Laws, two-runs, run-abs, run-answers}
 use Rattle.words.specs.Links.{Width}
-use Rattle.rules.proofs.Widths.{WidthLaws}
+use Rattle.words.proofs.Laws.Links.{Lawful}
 use Rattle.rules.specs.State.{ops}
-use Rattle.rules.specs.Rules.{Figures, says, byteOf, nameOf, Chosen, none, one, choose, withCached, released, fromList, fromCache, serve, handOut, live, settled, takeBack}
+use Rattle.rules.specs.Rules.{Figures, says, byteOf, nameOf, Chosen, none, one, choose, withCached, released, fromList, fromCache, serve, handOut}
+use Rattle.rules.specs.Rules.{settled, takeBack}
 use Rattle.rules.specs.Machine.{Model, Request, ask, give, callM, sizeM, searched, searchM, liveM, gaveM, settledM, takeBackM, madeM}
 use Rattle.rules.specs.Sound.{Accepted, Shows}
-use Rattle.rules.proofs.Base.{Edition, Follows, shown, whole, L, search-same, met-free, used-size, left-there, live-same, live-is, r16, r8}
+use Rattle.rules.proofs.Store.{Edition}
+use Rattle.rules.proofs.Follow.{Follows, shown, whole, L, search-same, met-free, used-size, left-there, live-same, live-is, r16, r8}
 use Rattle.rules.proofs.Decide.{true-sound, layout-unique}
 use Rattle.rules.specs.Test.{soundᵇ}
 use Rattle.rules.specs.Demands.{hand, back}
@@ -61,7 +63,7 @@ module _ {S : Type 0} {op : Ops S Figures} {most places : ℕ} (E : Edition op m
   pub write-shows : (s : S) (m : Model) (i v : ℕ) → Sh s m → Live op most places s i → Sh (op .setWord s i v) m
   write-shows s m i v h l =
       shown E (op .count s) (h .accepted) (op .setWord s i v) m
-      (live-write (L E s m h) classOf cls6 s (m .orders) (m .cs) i v (payload-of s m i h l) (whole E s m h)) (h .calm)
+      (live-write (L E s m h) classOf class-below s (m .orders) (m .cs) i v (payload-of s m i h l) (whole E s m h)) (h .calm)
       (L E s m h .rest-setWord s i v ∙ h .figs) (h .words) (h .cache) (h .right)
 
   pub follows : (q : Request) (s : S) (m : Model) → Sh s m → Follows op most places (call op most places q s) (callM places q m)
@@ -91,7 +93,8 @@ module _ {S : Type 0} {op : Ops S Figures} {most places : ℕ} (E : Edition op m
   }
 
   -- TWO RUNS
-  pub runs-agree : (es fs : List (Event Request)) (s t : S) (m : Model) → requests es ≡ requests fs → Sh s m → Sh t m → Allowed (acts op most places) es s → Allowed (acts op most places) fs t
+  pub runs-agree : (es fs : List (Event Request)) (s t : S) (m : Model) → requests es ≡ requests fs → Sh s m → Sh t m → Allowed (acts op most places) es s
+      → Allowed (acts op most places) fs t
       → (answers (acts op most places) es s ≡ answers (acts op most places) fs t) × Same op most places (run (acts op most places) es s) (run (acts op most places) fs t)
   unfolding laws
   runs-agree = two-runs laws
@@ -103,7 +106,8 @@ module _ {S : Type 0} {op : Ops S Figures} {most places : ℕ} (E : Edition op m
 
   -- ---- PAYLOADS
 
-  took-keeps : (s : S) (pre : List Chunk) (n : ℕ) (post : List Chunk) (O : ℕ → List ℕ) (f : Figures) (x z i : ℕ) (r : Figures) → 16 ≤ z → z % 8 ≡ 0 → x ≡ (0 + total pre) / 4 + 6
+  took-keeps : (s : S) (pre : List Chunk) (n : ℕ) (post : List Chunk) (O : ℕ → List ℕ) (f : Figures) (x z i : ℕ) (r : Figures) → 16 ≤ z → z % 8 ≡ 0
+      → x ≡ (0 + total pre) / 4 + 6
       → Sh s (record { cs = pre ++ free n ∷ post; orders = O; figs = f }) → Payload (pre ++ free n ∷ post) i
       → op .word (op .setRest (takeChunk op s (x - 6) (lengthAt op s x) z) r) i ≡ op .word s i
   took-keeps s pre n post O f x z i r z16 z8 e h p =
@@ -111,8 +115,9 @@ module _ {S : Type 0} {op : Ops S Figures} {most places : ℕ} (E : Edition op m
       let w = whole E s m h in
       let lp = legal-front pre (free n ∷ post) (h .legal) in
       L E s m h .word-setRest (takeChunk op s (x - 6) (lengthAt op s x) z) r i
-      ∙ rw (take-words op s (x - 6) (lengthAt op s x) z (omega arith), size-at (L E s m h) classOf cls6 s O pre n post x e w, byte-at pre x lp e)
-      (take-keeps (L E s m h) classOf cls6 pre post (calm-left pre n post (h .calm)) s O n z i z16 z8 w (payload-off (L E s m h) classOf cls6 (pre ++ free n ∷ post) i (h .legal) p) (payload-out pre n post i p))
+      ∙ rw (take-words op s (x - 6) (lengthAt op s x) z (omega arith), size-at (L E s m h) classOf class-below s O pre n post x e w, byte-at pre x lp e)
+      (take-keeps (L E s m h) classOf class-below pre post (calm-left pre n post (h .calm)) s O n z i z16 z8 w
+      (payload-off (L E s m h) classOf class-below (pre ++ free n ∷ post) i (h .legal) p) (payload-out pre n post i p))
 
   module _ (s : S) (m : Model) (h : Sh s m) (i : ℕ) where
     hand-keeps : (size : ℕ) → Payload (m .cs) i → op .word (hand op most places s size .after) i ≡ op .word s i
@@ -131,9 +136,13 @@ module _ {S : Type 0} {op : Ops S Figures} {most places : ℕ} (E : Edition op m
 
         served : (c : Chosen) → op .word (fromCache op places (soundᵇ op most places) s (roundedOf size) c .after) i ≡ op .word s i
         served (one x ks) = L E s m h .word-setRest s (withCached (op .rest s) ks) i
-        served none = rw (search-same E s m h (soundᵇ op most places) (roundedOf size)) (list (searchM m (roundedOf size)) (find-fits (sizeM m) (roundedOf size) (searched m (roundedOf size)) 0))
+        served none =
+            rw (search-same E s m h (soundᵇ op most places) (roundedOf size))
+            (list (searchM m (roundedOf size)) (find-fits (sizeM m) (roundedOf size) (searched m (roundedOf size)) 0))
 
-        go : (a b : Bool) → op .word ((pick a (says 1 0 0 s) (pick b (says 2 0 0 s) (fromCache op places (soundᵇ op most places) s (roundedOf size) (choose (lengthAt op s) (roundedOf size) (op .rest s .cached))))) .after) i ≡ op .word s i
+        go : (a b : Bool) → op .word ((pick a (says 1 0 0 s)
+            (pick b (says 2 0 0 s) (fromCache op places (soundᵇ op most places) s (roundedOf size)
+            (choose (lengthAt op s) (roundedOf size) (op .rest s .cached))))) .after) i ≡ op .word s i
         go true b = refl
         go false true = refl
         go false false = served (choose (lengthAt op s) (roundedOf size) (op .rest s .cached))
@@ -144,12 +153,13 @@ module _ {S : Type 0} {op : Ops S Figures} {most places : ℕ} (E : Edition op m
     gave-keeps k ks r k6 up p p″ =
         let n = usedAt (m .cs) (byteOf k) in
         let u = used-at (m .cs) (byteOf k) (omega arith) in
-        let w = subst (λ cs. Whole (L E s m h) classOf cls6 s (m .orders) cs) (u .is) (whole E s m h) in
+        let w = subst (λ cs. Whole (L E s m h) classOf class-below s (m .orders) cs) (u .is) (whole E s m h) in
         let c = subst Calm (u .is) (h .calm) in
         let lp = legal-front (u .pre) (busy n ∷ u .post) (w .legal) in
         let lq = (legal-back (u .pre) (busy n ∷ u .post) (w .legal)) .2 in
         let j : indexAt (m .cs) (byteOf k) ≡ length (u .pre) = ap (λ ds. indexAt ds (byteOf k)) (u .is) ∙ index-at (u .pre) (busy n) (u .post) (byteOf k) lp (u .byte) in
-        let q : release (m .cs) (indexAt (m .cs) (byteOf k)) ≡ release (u .pre ++ busy n ∷ u .post) (length (u .pre)) = ap (λ (v : ℕ). release (m .cs) v) j ∙ ap (λ ds. release ds (length (u .pre))) (u .is) in
+        let q : release (m .cs) (indexAt (m .cs) (byteOf k)) ≡ release (u .pre ++ busy n ∷ u .post) (length (u .pre)) = ap (λ (v : ℕ). release (m .cs) v) j ∙ ap
+        (λ ds. release ds (length (u .pre))) (u .is) in
         let b : byteOf k ≡ 0 + total (u .pre) = u .byte ∙ sym (zero-add (total (u .pre))) in
         let y : lengthAt op s k ≡ n = used-size E s m h k k6 up in
         let lt = left-there E (L E s m h) s (u .pre) n (u .post) k (u .byte) k6 (w .legal) (w .tags) in
@@ -157,8 +167,9 @@ module _ {S : Type 0} {op : Ops S Figures} {most places : ℕ} (E : Edition op m
         ∙ ap (λ (t : S). op .word t i) (release-words op s (k - 6) (lengthAt op s k) (omega arith) (lt .1))
         ∙ ap (λ (t : ℕ). op .word (releaseStep op classOf s (byteOf k) t) i) y
         ∙ ap (λ (t : ℕ). op .word (releaseStep op classOf s t n) i) b
-        ∙ release-keeps (L E s m h) classOf cls6 s (m .orders) n i (u .pre) (u .post) c w (payload-off (L E s m h) classOf cls6 (u .pre ++ busy n ∷ u .post) i (w .legal) (subst (λ ds. Payload ds i) (u .is) p))
-        (shape-out (L E s m h) classOf cls6 s n _ _ _ i (shape (L E s m h) classOf cls6 s n (u .pre) (u .post) c lq) (subst (λ ds. Payload ds i) q p″))
+        ∙ release-keeps (L E s m h) classOf class-below s (m .orders) n i (u .pre) (u .post) c w
+        (payload-off (L E s m h) classOf class-below (u .pre ++ busy n ∷ u .post) i (w .legal) (subst (λ ds. Payload ds i) (u .is) p))
+        (shape-out (L E s m h) classOf class-below s n _ _ _ i (shape (L E s m h) classOf class-below s n (u .pre) (u .post) c lq) (subst (λ ds. Payload ds i) q p″))
 
     settled-keeps : (ks : List ℕ) → ((x : ℕ) → Mem x ks → (6 ≤ x) × (0 < usedAt (m .cs) (byteOf x))) → Payload (m .cs) i → Payload (settledM places m ks .cs) i
         → op .word (settled op places (soundᵇ op most places) s ks) i ≡ op .word s i
@@ -167,7 +178,8 @@ module _ {S : Type 0} {op : Ops S Figures} {most places : ℕ} (E : Edition op m
     settled-keeps (k ∷ ks) us p p′ = go (leb (length (k ∷ ks)) places) p′
       where
         go : (t : Bool) → Payload ((pick t (record { cs = m .cs; orders = m .orders; figs = withCached (m .figs) (k ∷ ks) }) (gaveM m ks (byteOf k) (sizeM m k))) .cs) i
-            → op .word (pick t (op .setRest s (withCached (op .rest s) (k ∷ ks))) (op .setRest (releaseChunk op s (k - 6) (lengthAt op s k)) (released (op .rest s) ks (lengthAt op s k)))) i ≡ op .word s i
+            → op .word (pick t (op .setRest s (withCached (op .rest s) (k ∷ ks)))
+            (op .setRest (releaseChunk op s (k - 6) (lengthAt op s k)) (released (op .rest s) ks (lengthAt op s k)))) i ≡ op .word s i
         go true y = L E s m h .word-setRest s (withCached (op .rest s) (k ∷ ks)) i
         go false y = let u = us k (List·Memᴰ·head refl) in gave-keeps k ks (released (op .rest s) ks (lengthAt op s k)) (u .0) (u .1) p y
 
@@ -175,19 +187,22 @@ module _ {S : Type 0} {op : Ops S Figures} {most places : ℕ} (E : Edition op m
     unfolding takeBack takeBackM
     back-keeps p a b = rw (true-sound E s (m, h), live-same E (soundᵇ op most places) s m h p, h .figs) (go (eqb (liveM m p) 0) refl b)
       where
-        both : (x : ℕ) → Mem x (m .figs .cached) ⊎ Mem x (nameOf (p - 4) ∷ []) → byteOf (nameOf (p - 4)) ≡ p - 4 → 0 < usedAt (m .cs) (p - 4) → (6 ≤ x) × (0 < usedAt (m .cs) (byteOf x))
+        both : (x : ℕ) → Mem x (m .figs .cached) ⊎ Mem x (nameOf (p - 4) ∷ []) → byteOf (nameOf (p - 4)) ≡ p - 4 → 0 < usedAt (m .cs) (p - 4)
+            → (6 ≤ x) × (0 < usedAt (m .cs) (byteOf x))
         both x (inl q) c d = h .cache .used x q
         both x (inr q) c d = let e = List·Memᴰ·eq-of-singleton q in (omega arith, subst (λ (t : ℕ). 0 < usedAt (m .cs) t) (sym (ap byteOf e ∙ c)) d)
 
         go : (t : Bool) → eqb (liveM m p) 0 ≡ t → Payload ((pick t (says 4 0 0 m) (says 0 0 0 (settledM places m (m .figs .cached ++ nameOf (p - 4) ∷ [])))) .after .cs) i
-            → op .word ((pick t (says 4 0 0 s) (says 0 0 0 (settled op places (soundᵇ op most places) s (m .figs .cached ++ nameOf (p - 4) ∷ [])))) .after) i ≡ op .word s i
+            → op .word ((pick t (says 4 0 0 s) (says 0 0 0 (settled op places (soundᵇ op most places) s (m .figs .cached ++ nameOf (p - 4) ∷ [])))) .after) i
+            ≡ op .word s i
         go true e y = refl
         go false e y =
             let v = live-is E (soundᵇ op most places) s m h p (eqb-false (liveM m p) 0 e) in
             settled-keeps (m .figs .cached ++ nameOf (p - 4) ∷ []) (λ x q. both x (List·Memᴰ·append-cases (m .figs .cached) q) (v .0) (v .1)) a y
 
   -- NO CALL CHANGES a word of a payload live before and after it
-  pub payload-kept : (q : Request) (s : S) (i : ℕ) → Live op most places s i → Live op most places (call op most places q s .after) i → op .word (call op most places q s .after) i ≡ op .word s i
+  pub payload-kept : (q : Request) (s : S) (i : ℕ) → Live op most places s i → Live op most places (call op most places q s .after) i
+      → op .word (call op most places q s .after) i ≡ op .word s i
   unfolding call callM
   payload-kept (ask n) s i l l′ = hand-keeps s (l .shows) (l .abs) i n (payload (l .shows) i (l .word))
   payload-kept (give p) s i l l′ =
@@ -195,8 +210,9 @@ module _ {S : Type 0} {op : Ops S Figures} {most places : ℕ} (E : Edition op m
       (payload-of (back op most places s p .after) (takeBackM places (l .shows) p .after) i (back-follows E s (l .shows) (l .abs) p .after) l′)
 
 -- DEMAND 3, from making on, for any two link widths: the editions agree. With one width these are two heaps of one edition
-module _ {W W′ : Width} (E : WidthLaws W) (E′ : WidthLaws W′) (most most′ places : ℕ) (f : most + 6 ≤ W .limit) (f′ : most′ + 6 ≤ W′ .limit) where
-  pub two-heaps : (ws ws′ : List ℕ) → length ws ≡ length ws′ → Accepted most (length ws) → Accepted most′ (length ws′) → (es fs : List (Event Request)) → requests es ≡ requests fs
+module _ {W W′ : Width} (E : Lawful W) (E′ : Lawful W′) (most most′ places : ℕ) (f : most + 6 ≤ W .limit) (f′ : most′ + 6 ≤ W′ .limit) where
+  pub two-heaps : (ws ws′ : List ℕ) → length ws ≡ length ws′ → Accepted most (length ws) → Accepted most′ (length ws′) → (es fs : List (Event Request))
+      → requests es ≡ requests fs
       → Allowed (acts (ops W) most places) es (oneChunk (ops W) (fresh ws) (4 * (length ws - 1)))
       → Allowed (acts (ops W′) most′ places) fs (oneChunk (ops W′) (fresh ws′) (4 * (length ws′ - 1)))
       → answers (acts (ops W) most places) es (oneChunk (ops W) (fresh ws) (4 * (length ws - 1)))

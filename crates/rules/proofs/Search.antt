@@ -104,7 +104,8 @@ unfolding inTurn
 in-turn O zero k x m = absurd (List·Memᴰ·not-nil m)
 in-turn O (suc n) k x m = go (λ i. in-turn O n (suc k) x i) (List·Memᴰ·append-cases (O k) m)
   where
-    go : (Mem x (inTurn O n (suc k)) → (j : ℕ) × (suc k ≤ j) × (j < suc k + n) × Mem x (O j)) → Mem x (O k) ⊎ Mem x (inTurn O n (suc k)) → (j : ℕ) × (k ≤ j) × (j < k + suc n) × Mem x (O j)
+    go : (Mem x (inTurn O n (suc k)) → (j : ℕ) × (suc k ≤ j) × (j < suc k + n) × Mem x (O j)) → Mem x (O k) ⊎ Mem x (inTurn O n (suc k))
+        → (j : ℕ) × (k ≤ j) × (j < k + suc n) × Mem x (O j)
     go f (inl i) = (k, omega arith, omega arith, i)
     go f (inr i) = let r = f i in let a = r .1 in let b = r .2 in (r .0, omega arith, omega arith, r .3)
 
@@ -125,7 +126,8 @@ distinct-append (x ∷ xs) ys d e h = (λ m. go (List·Memᴰ·append-cases xs m
     go (inl i) = d .0 i
     go (inr i) = h x (List·Memᴰ·head refl) i
 
-pub turn-distinct : (O : ℕ → List ℕ) (n k : ℕ) → ((j : ℕ) → j < k + n → Distinct (O j)) → ((i j x : ℕ) → i < k + n → j < k + n → Mem x (O i) → Mem x (O j) → i ≡ j) → Distinct (inTurn O n k)
+pub turn-distinct : (O : ℕ → List ℕ) (n k : ℕ) → ((j : ℕ) → j < k + n → Distinct (O j)) → ((i j x : ℕ) → i < k + n → j < k + n → Mem x (O i) → Mem x (O j) → i ≡ j)
+    → Distinct (inTurn O n k)
 unfolding inTurn
 turn-distinct O zero k d h = tt
 turn-distinct O (suc n) k d h =
@@ -135,7 +137,8 @@ turn-distinct O (suc n) k d h =
 
 -- THE WHOLE SEARCH along the links is the search along the orders: no more than N are listed
 module _ (nx pv size size′ : ℕ → ℕ) (z N : ℕ) (O : ℕ → List ℕ) where
-  pub search-walk : (n k c : ℕ) → ((j : ℕ) → j < k + n → (Mem j (O j) → ⊥) × Seg nx pv j (O j) j × ((x : ℕ) → Mem x (O j) → size x ≡ size′ x)) → c + length (inTurn O n k) ≤ N
+  pub search-walk : (n k c : ℕ) → ((j : ℕ) → j < k + n → (Mem j (O j) → ⊥) × Seg nx pv j (O j) j × ((x : ℕ) → Mem x (O j) → size x ≡ size′ x))
+      → c + length (inTurn O n k) ≤ N
       → searchAll (λ j d. findWalk nx size z j (N - d) (nx j) d) n k c ≡ find size′ z (inTurn O n k) c
   unfolding searchAll inTurn
   search-walk zero k c g h = sym (find-none size′ z c)
@@ -144,7 +147,8 @@ module _ (nx pv size size′ : ℕ → ℕ) (z N : ℕ) (O : ℕ → List ℕ) w
       let p = g k (omega arith) in
       let e : findWalk nx size z k (N - c) (nx k) c ≡ find size′ z (O k) c =
       find-walk nx pv size z k (O k) k (N - c) c (p .0) (omega arith) (p .1) ∙ find-same size size′ z (O k) c (p .2) in
-      rw e (go (find size′ z (O k) c) (find-counts size′ z (O k) c) (λ d q. search-walk n (suc k) d (λ j b. g j (omega arith)) (omega arith)) ∙ sym (find-append size′ z (O k) (inTurn O n (suc k)) c))
+      rw e (go (find size′ z (O k) c) (find-counts size′ z (O k) c) (λ d q. search-walk n (suc k) d (λ j b. g j (omega arith)) (omega arith)) ∙ sym
+      (find-append size′ z (O k) (inTurn O n (suc k)) c))
     where
       go : (r : Found) → Counts size′ z (O k) c r
           → ((d : ℕ) → d ≡ c + length (O k) → searchAll (λ j d. findWalk nx size z j (N - d) (nx j) d) n (suc k) d ≡ find size′ z (inTurn O n (suc k)) d)

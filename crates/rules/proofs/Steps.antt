@@ -3,7 +3,7 @@
 use mathlib.Core.Path.{_≡_, refl, ap, _∙_}
 use mathlib.Core.Bool.{Bool, true, false}
 use mathlib.Core.List.{List, [], _∷_, _++_}
-use Prim.Native.Nat.{ℕ, _+_, _-_, _*_, _/_, _%_, _≤_, _<_}
+use Prim.Native.Nat.{ℕ, _+_, _-_, _/_, _%_, _≤_, _<_}
 use native.Mathlib.Omega.{arith}
 use Rattle.words.specs.Tags.{headerOf, leftUsed, leftFreed}
 use Rattle.rules.specs.Ops.{Ops}
@@ -11,14 +11,11 @@ use Rattle.rules.proofs.Bytes.{wholeUsed, cutUsed, oneFree}
 use Rattle.rules.proofs.Store.{LinkStore}
 use Rattle.rules.specs.Chunks.{Chunk, free, busy, total, Legal}
 use Rattle.rules.proofs.Chunks.{total-append}
+use Rattle.words.proofs.Laws.Choice.{bit-small}
 use Rattle.words.specs.Choice.{bit}
 use Rattle.rules.specs.Tags.{headTag, Tags}
 use Rattle.rules.proofs.Tags.{lastUsed, tags-back, tags-head}
 use Rattle.rules.proofs.Part.{Part, legal-front, legal-back, outside, write-rings, retag}
-
-bit-lt : (x : Bool) → bit x < 2
-bit-lt true = omega arith
-bit-lt false = omega arith
 
 headTag-even : (cs : List Chunk) → Legal cs → headTag cs % 2 ≡ 0
 headTag-even [] g = refl
@@ -33,18 +30,24 @@ module _ {S R : Type 0} {op : Ops S R} (L : LinkStore op) where
     abbrev l : Bool
     l = lastUsed true pre
 
-    pub whole-part : (s : S) (n : ℕ) → Part L cls s O (pre ++ free n ∷ post) (outside L cls cls6 pre post O n) → Part L cls (wholeUsed op s b n) O (pre ++ busy n ∷ post) (outside L cls cls6 pre post O n)
+    pub whole-part : (s : S) (n : ℕ) → Part L cls s O (pre ++ free n ∷ post) (outside L cls cls6 pre post O n)
+        → Part L cls (wholeUsed op s b n) O (pre ++ busy n ∷ post) (outside L cls cls6 pre post O n)
     unfolding wholeUsed
     whole-part s n p =
         let h16 : 16 ≤ n = n16 in
         let hb : b + n ≤ L .bytes = all in
-        retag L cls cls6 pre post O s (op .setWord s1 ((b + n) / 4) (leftUsed (op .word s1 ((b + n) / 4)))) (free n ∷ []) (busy n ∷ []) n (omega arith) (omega arith) (ln .0, ln .1, tt) p
+        retag L cls cls6 pre post O s (op .setWord s1 ((b + n) / 4) (leftUsed (op .word s1 ((b + n) / 4)))) (free n ∷ []) (busy n ∷ []) n (omega arith) (omega arith)
+        (ln .0, ln .1, tt) p
         (write-rings L cls cls6 pre post O s1 n ((b + n) / 4) _ lp lq (p .exact) (omega arith) (omega arith)
         (write-rings L cls cls6 pre post O s n (b / 4) _ lp lq (p .exact) (omega arith) (omega arith) (p .rings)))
         (λ i h. L .word-setWord′ s1 _ _ i (omega arith) ∙ L .word-setWord′ s _ _ i (omega arith))
         (λ i h. L .word-setWord′ s1 _ _ i (omega arith) ∙ L .word-setWord′ s _ _ i (omega arith))
-        (let q = tags-head (op .word s) (b + n) false post (t .2) in let ev = headTag-even post lq in let r1 : op .word s1 ((b + n) / 4) ≡ op .word s ((b + n) / 4) = L .word-setWord′ s _ _ ((b + n) / 4) (omega arith) in L .word-setWord s1 _ _ g1 (L .inw ((b + n) / 4) (omega arith)) ∙ omega arith) (
-          let k : bit l ≡ 1 = ap bit last in let h8 : n % 8 ≡ 0 = ln .1 in L .word-setWord′ s1 _ _ (b / 4) (omega arith) ∙ L .word-setWord s _ _ (p .rings .good) (L .inw (b / 4) (omega arith)) ∙ omega arith,
+        (let q = tags-head (op .word s) (b + n) false post (t .2) in let ev = headTag-even post lq in
+        let r1 : op .word s1 ((b + n) / 4) ≡ op .word s ((b + n) / 4) = L .word-setWord′ s _ _ ((b + n) / 4) (omega arith) in L .word-setWord s1 _ _ g1
+        (L .inw ((b + n) / 4) (omega arith)) ∙ omega arith) (
+          let k : bit l ≡ 1 = ap bit last in
+              let h8 : n % 8 ≡ 0 = ln .1 in L .word-setWord′ s1 _ _ (b / 4) (omega arith) ∙ L .word-setWord s _ _ (p .rings .good) (L .inw (b / 4) (omega arith))
+              ∙ omega arith,
           λ e. absurd (let z : _≡_ {A = ℕ} 0 1 = cc in omega arith),
           tt,
         )
@@ -89,7 +92,8 @@ module _ {S R : Type 0} {op : Ops S R} (L : LinkStore op) where
         (L .word-setWord′ s2 _ _ ((b + n) / 4) (omega arith) ∙ L .word-setWord′ s1 _ _ ((b + n) / 4) (omega arith) ∙ L .word-setWord′ s _ _ ((b + n) / 4) (omega arith)
         ∙ tags-head (op .word s) (b + n) false post (t .2)) (
           let k : bit l ≡ 1 = ap bit last in
-              L .word-setWord′ s2 _ _ (b / 4) (omega arith) ∙ L .word-setWord′ s1 _ _ (b / 4) (omega arith) ∙ L .word-setWord s _ _ (p .rings .good) (L .inw (b / 4) (omega arith)) ∙ omega arith,
+              L .word-setWord′ s2 _ _ (b / 4) (omega arith) ∙ L .word-setWord′ s1 _ _ (b / 4) (omega arith) ∙ L .word-setWord s _ _ (p .rings .good)
+              (L .inw (b / 4) (omega arith)) ∙ omega arith,
           λ e. absurd (let z : _≡_ {A = ℕ} 0 1 = cc in omega arith),
           (
             L .word-setWord′ s2 _ _ ((b + z) / 4) (omega arith) ∙ L .word-setWord s1 _ _ g1 (L .inw ((b + z) / 4) (omega arith)) ∙ omega arith,
@@ -139,11 +143,13 @@ module _ {S R : Type 0} {op : Ops S R} (L : LinkStore op) where
         (write-rings L cls cls6 pre post O s m (b / 4) _ lp lq (p .exact) (omega arith) (omega arith) (p .rings))))
         (λ i h. L .word-setWord′ s2 _ _ i (omega arith) ∙ L .word-setWord′ s1 _ _ i (omega arith) ∙ L .word-setWord′ s _ _ i (omega arith))
         (λ i h. L .word-setWord′ s2 _ _ i (omega arith) ∙ L .word-setWord′ s1 _ _ i (omega arith) ∙ L .word-setWord′ s _ _ i (omega arith))
-        (let q = tags-head (op .word s) (b + m) (lastUsed l mid) post tq in let e = headTag-even post lq in let k = bit-lt (lastUsed l mid) in
-        let r2 : op .word s2 ((b + m) / 4) ≡ op .word s ((b + m) / 4) = L .word-setWord′ s1 _ _ ((b + m) / 4) (omega arith) ∙ L .word-setWord′ s _ _ ((b + m) / 4) (omega arith) in
+        (let q = tags-head (op .word s) (b + m) (lastUsed l mid) post tq in let e = headTag-even post lq in let k = bit-small (lastUsed l mid) in
+        let r2 : op .word s2 ((b + m) / 4) ≡ op .word s ((b + m) / 4) = L .word-setWord′ s1 _ _ ((b + m) / 4) (omega arith) ∙ L .word-setWord′ s _ _ ((b + m) / 4)
+        (omega arith) in
         L .word-setWord s2 _ _ g2 (L .inw ((b + m) / 4) (omega arith)) ∙ omega arith) (
           let k : bit l ≡ 1 = ap bit last in
-              L .word-setWord′ s2 _ _ (b / 4) (omega arith) ∙ L .word-setWord′ s1 _ _ (b / 4) (omega arith) ∙ L .word-setWord s _ _ (p .rings .good) (L .inw (b / 4) (omega arith)) ∙ omega arith,
+              L .word-setWord′ s2 _ _ (b / 4) (omega arith) ∙ L .word-setWord′ s1 _ _ (b / 4) (omega arith) ∙ L .word-setWord s _ _ (p .rings .good)
+              (L .inw (b / 4) (omega arith)) ∙ omega arith,
           λ e. L .word-setWord′ s2 _ _ ((b + m) / 4 - 1) (omega arith) ∙ L .word-setWord s1 _ _ g1 (L .inw ((b + m) / 4 - 1) (omega arith)),
           tt,
         )

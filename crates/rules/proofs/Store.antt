@@ -5,7 +5,11 @@ use mathlib.Core.Path.{_≡_}
 use mathlib.Core.Logic.{_≢_}
 use Prim.Native.Nat.{ℕ, _+_, _-_, _*_, _/_, _%_, _≤_, _<_}
 use mathlib.Core.Bool.{true}
+use lib.ListN.{length}
+use Rattle.rules.specs.Lists.{Mem}
 use Rattle.rules.specs.Ops.{Ops}
+use Rattle.rules.specs.Rules.{Figures}
+use Rattle.rules.specs.Sound.{Accepted}
 
 pub record LinkStore {S R : Type 0} (op : Ops S R) : Type 1 where
   pub Good : S → Type 0
@@ -51,3 +55,9 @@ pub record LinkStore {S R : Type 0} (op : Ops S R) : Type 1 where
   pub good-count : (s : S) → Good s → bytes ≡ 4 * (op .count s - 1)
   pub good-six : (s : S) → Good s → op .six s ≡ true
   pub good-is : (s : S) → bytes ≡ 4 * (op .count s - 1) → 5 ≤ op .count s → op .six s ≡ true → Good s
+
+-- AN EDITION: for each accepted length a link store over the same operations
+pub record Edition {S : Type 0} (op : Ops S Figures) (most places : ℕ) : Type 1 where
+  pub store : (n : ℕ) → Accepted most n → LinkStore op
+  pub bytes : (n : ℕ) (a : Accepted most n) → store n a .bytes ≡ 4 * (n - 1)
+  pub fit : (n : ℕ) (a : Accepted most n) (r : Figures) → length (r .cached) ≤ places → ((x : ℕ) → Mem x (r .cached) → 6 ≤ x) → store n a .Fit r

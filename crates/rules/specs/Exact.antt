@@ -1,11 +1,12 @@
--- The free chunks of a layout, and orders that hold exactly them, by class. Assumes nothing.
+-- THE CLASS LISTS AGAINST CHUNKS: the free chunks by their links, and orders that hold exactly them, each in the list of its class.
 use mathlib.Core.Path.{_≡_}
 use mathlib.Core.List.{List, [], _∷_, List·Memᴰ}
 use Prim.Native.Nat.{ℕ, _+_, _/_, _<_}
 use Rattle.words.specs.Choice.{pick}
 use Rattle.rules.specs.Lists.{Mem}
-use Rattle.rules.specs.Chunks.{Chunk, free}
+use Rattle.rules.specs.Chunks.{Chunk}
 
+-- a free chunk: its link and its length
 pub record Slot : Type 0 where
   pub name : ℕ
   pub len : ℕ
@@ -13,15 +14,16 @@ pub record Slot : Type 0 where
 abbrev pub slot : ℕ → ℕ → Slot
 slot x n = record { name = x; len = n }
 
+-- t is one of F
 abbrev pub In : Slot → List Slot → Type 0
 In t F = List·Memᴰ t F
 
--- the free chunks from byte b on, with their links' names
+-- the free ones of the chunks from byte b on
 unfoldable pub frees : ℕ → List Chunk → List Slot
 frees b [] = []
 frees b (c ∷ cs) = pick (c .used) (frees (b + c .len) cs) (slot (b / 4 + 6) (c .len) ∷ frees (b + c .len) cs)
 
--- the orders O hold exactly the slots F, each in the list of its class
+-- each of F is in the list of its class, and each list below 6 holds only such
 pub record Exact (cls : ℕ → ℕ) (O : ℕ → List ℕ) (F : List Slot) : Type 0 where
   pub listed : (x n : ℕ) → In (slot x n) F → Mem x (O (cls n))
   pub only : (k x : ℕ) → k < 6 → Mem x (O k) → (n : ℕ) × In (slot x n) F × (cls n ≡ k)

@@ -1,4 +1,4 @@
--- THE RULES WITHOUT MEMORY: the chunks left to right, the six orders, the figures. No words, no links, no tags.
+-- THE RULES WITHOUT MEMORY: the same calls on a model, with no words, no links, no tags. What a heap's answers are, whatever its memory holds.
 use mathlib.Core.Bool.{false}
 use mathlib.Core.List.{List, [], _∷_, _++_}
 use Prim.Native.Nat.{ℕ, suc, _+_, _-_, _*_}
@@ -13,6 +13,7 @@ use Rattle.rules.specs.Orders.{takenOrders, mergedOrders, freeLast, free
 use Rattle.rules.specs.Rules.{Figures, Outcome, says, byteOf, nameOf, Chosen, none, one, choose, listed, withCached, counted, released}
 use Rattle.rules.specs.Steps.{portion}
 
+-- the chunks left to right, the six orders of free ones, the figures
 pub record Model : Type 0 where
   pub cs : List Chunk
   pub orders : ℕ → List ℕ
@@ -22,6 +23,7 @@ pub record Model : Type 0 where
 abbrev pub sizeM : Model → ℕ → ℕ
 sizeM m x = lenAt (m .cs) (byteOf x)
 
+-- made in n words: one free chunk, listed
 abbrev pub madeM : ℕ → Model
 madeM n =
     record {
@@ -30,7 +32,7 @@ madeM n =
       figs = record { words = n; cached = []; inUse = 0; peak = 0; high = 0; flag = false };
     }
 
--- HANDING OUT
+-- HANDING OUT: the listed chunk x of n bytes taken for z
 unfoldable pub tookM : Model → ℕ → ℕ → ℕ → Model
 tookM m x n z =
     record {
@@ -43,25 +45,29 @@ tookM m x n z =
 abbrev pub searched : Model → ℕ → List ℕ
 searched m z = inTurn (m .orders) (6 - startOf z) (startOf z)
 
+-- the first of them that has z bytes
 abbrev pub searchM : Model → ℕ → Found
 searchM m z = find (sizeM m) z (searched m z) 0
 
+-- from a list; or no fit
 abbrev pub fromListM : Model → ℕ → Found → Outcome Model
 fromListM m z (at x c) = says 0 (byteOf x + 4) c (tookM m x (sizeM m x) z)
 fromListM m z (nowhere c) = says 3 0 c m
 fromListM m z lost = says 5 0 0 m
 
+-- from the cache; else from a list
 abbrev pub fromCacheM : Model → ℕ → Chosen → Outcome Model
 fromCacheM m z (one x ks) = says 0 (byteOf x + 4) 0 (record { cs = m .cs; orders = m .orders; figs = withCached (m .figs) ks })
 fromCacheM m z none = fromListM m z (searchM m z)
 
+-- size bytes asked
 unfoldable pub handOutM : Model → ℕ → Outcome Model
 handOutM m size =
     let serve = fromCacheM m (roundedOf size) (choose (sizeM m) (roundedOf size) (m .figs .cached)) in
     let small = pick (ltb 4294967284 size) (says 2 0 0 m) serve in
     pick (eqb size 0) (says 1 0 0 m) small
 
--- TAKING BACK
+-- TAKING BACK: the length of the live chunk whose payload begins at p, 0 where none does
 unfoldable pub liveM : Model → ℕ → ℕ
 liveM m p =
     let cold = pick (listed (nameOf (p - 4)) (m .figs .cached)) 0 (usedAt (m .cs) (p - 4)) in
@@ -78,29 +84,34 @@ gaveM m ks b n =
       figs = released (m .figs) ks n;
     }
 
+-- the chunks ks cached, or, where they are too many, the oldest released
 abbrev pub settledM : ℕ → Model → List ℕ → Model
 settledM places m [] = m
 settledM places m (k ∷ ks) =
     pick (leb (length (k ∷ ks)) places) (record { cs = m .cs; orders = m .orders; figs = withCached (m .figs) (k ∷ ks) }) (gaveM m ks (byteOf k) (sizeM m k))
 
+-- payload offset p given back
 unfoldable pub takeBackM : ℕ → Model → ℕ → Outcome Model
 takeBackM places m p =
     let done = says 0 0 0 (settledM places m (m .figs .cached ++ nameOf (p - 4) ∷ [])) in
     pick (eqb (liveM m p) 0) (says 4 0 0 m) done
 
--- THE MACHINE: what a request does to a model, and what it answers
+-- A REQUEST: to hand out a size, to take a payload offset back
 pub data Request : Type 0 where
   ask : ℕ → Request
   give : ℕ → Request
 
+-- what it is answered
 pub record Answer : Type 0 where
   pub number : ℕ
   pub value : ℕ
   pub compared : ℕ
 
+-- an outcome without its state
 abbrev pub answerOf : {S : Type 0} → Outcome S → Answer
 answerOf o = record { number = o .number; value = o .value; compared = o .compared }
 
+-- a request to a model
 unfoldable pub callM : ℕ → Request → Model → Outcome Model
 callM places (ask n) m = handOutM m n
 callM places (give p) m = takeBackM places m p

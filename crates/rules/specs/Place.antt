@@ -1,9 +1,7 @@
--- Where chunks stand: by name in the free ones, and by byte, on the layout and as the tags tell. Assumes nothing.
-use mathlib.Core.Option.{none}
+-- WHERE CHUNKS STAND, by byte: in a list of chunks, and as the headers tell.
 use mathlib.Core.List.{List, [], _∷_}
 use Prim.Native.Nat.{ℕ, zero, suc, _+_, _-_, _*_, _/_, _%_}
 use lib.Dec.{eqb, leb}
-use lib.ListN.{length}
 use Rattle.words.specs.Choice.{pick}
 use Rattle.rules.specs.Chunks.{Chunk}
 
@@ -24,7 +22,7 @@ usedAt (c ∷ cs) b =
     let q = pick (leb (c .len) b) r 0 in
     pick (eqb b 0) (pick (c .used) (c .len) 0) q
 
--- the same, along the headers from byte e on
+-- the same along the headers f, from byte e on: the tiling alone tells
 unfoldable pub usedWalk : (ℕ → ℕ) → ℕ → ℕ → ℕ → ℕ
 usedWalk f zero e b = 0
 usedWalk f (suc fuel) e b =

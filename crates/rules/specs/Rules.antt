@@ -21,12 +21,14 @@ pub record Figures : Type 0 where
   pub high : ℕ
   pub flag : Bool
 
+-- what a call gives
 pub record Outcome (S : Type 0) : Type 0 where
   pub number : ℕ
   pub value : ℕ
   pub compared : ℕ
   pub after : S
 
+-- one, written out
 abbrev pub says : {S : Type 0} → ℕ → ℕ → ℕ → S → Outcome S
 says n v c s = record { number = n; value = v; compared = c; after = s }
 
@@ -37,30 +39,35 @@ byteOf x = (x - 6) * 4
 abbrev pub nameOf : ℕ → ℕ
 nameOf b = b / 4 + 6
 
--- THE CACHE: the oldest one of at least z and at most z + 512 bytes, and the others
+-- THE CACHE: none of the cached chunks, or one and the others
 pub data Chosen : Type 0 where
   none : Chosen
   one : ℕ → List ℕ → Chosen
 
+-- x kept in front of the others
 abbrev pub behind : ℕ → Chosen → Chosen
 behind x none = none
 behind x (one y ys) = one y (x ∷ ys)
 
+-- n bytes serve a rounded size z: at least z and at most z + 512
 abbrev pub serves : ℕ → ℕ → Bool
 serves n z = pick (leb z n) (leb n (z + 512)) false
 
+-- the oldest one that serves
 unfoldable pub choose : (ℕ → ℕ) → ℕ → List ℕ → Chosen
 choose size z [] = none
 choose size z (x ∷ xs) = let r = behind x (choose size z xs) in pick (serves (size x) z) (one x xs) r
 
+-- x is one of these
 unfoldable pub listed : ℕ → List ℕ → Bool
 listed x [] = false
 listed x (y ∷ ys) = let r = listed x ys in pick (eqb x y) true r
 
--- THE FIGURES after only the cache changed; after a chunk of m bytes that ends at byte e came from a list; after one of n bytes was released
+-- THE FIGURES after only the cache changed: the counters stay
 abbrev pub withCached : Figures → List ℕ → Figures
 withCached r ks = record { words = r .words; cached = ks; inUse = r .inUse; peak = r .peak; high = r .high; flag = r .flag }
 
+-- after a chunk of m bytes that ends at byte e came from a list
 abbrev pub counted : Figures → ℕ → ℕ → Figures
 counted r m e =
     record {
@@ -72,15 +79,16 @@ counted r m e =
       flag = pick (ltb (r .high) e) true (r .flag);
     }
 
+-- after a chunk of n bytes was released, ks staying cached
 abbrev pub released : Figures → List ℕ → ℕ → Figures
 released r ks n = record { words = r .words; cached = ks; inUse = r .inUse - n; peak = r .peak; high = r .high; flag = r .flag }
 
 module _ {S : Type 0} (op : Ops S Figures) (places : ℕ) (sound : S → Bool) where
-  -- HANDING OUT: 2. lists from the start class upwards, each from its sentinel's next; a heap of n words lists at most n / 4 chunks
+  -- HANDING OUT: 2. lists from the start class upwards, each from its sentinel's next; n words list at most n / 4 chunks
   unfoldable pub firstFit : S → ℕ → Found
   firstFit s z = searchAll (λ j c. findWalk (op .next s) (lengthAt op s) z j (op .count s / 4 - c) (op .next s j) c) (6 - startOf z) (startOf z) 0
 
-  -- 3 and 4. the chunk found is unlinked, cut and marked used; the figures follow
+  -- 3 and 4. the chunk found is unlinked, cut and marked used; the figures follow. Or no fit
   unfoldable pub fromList : S → ℕ → Found → Outcome S
   fromList s z (at x c) =
       let n = lengthAt op s x in
@@ -97,6 +105,7 @@ module _ {S : Type 0} (op : Ops S Figures) (places : ℕ) (sound : S → Bool) w
   unfoldable pub serve : S → ℕ → Outcome S
   serve s z = fromCache s z (choose (lengthAt op s) z (op .rest s .cached))
 
+  -- size bytes asked: 1, 2, 5 in that order, else served
   unfoldable pub handOut : S → ℕ → Outcome S
   handOut s size =
       let served = serve s (roundedOf size) in
@@ -119,6 +128,7 @@ module _ {S : Type 0} (op : Ops S Figures) (places : ℕ) (sound : S → Bool) w
       let off = op .setRest (releaseChunk op s (k - 6) n) (released (op .rest s) ks n) in
       pick (leb (length (k ∷ ks)) places) (op .setRest s (withCached (op .rest s) (k ∷ ks))) off
 
+  -- payload offset p given back: 5, then 4, else the chunk is cached
   unfoldable pub takeBack : S → ℕ → Outcome S
   takeBack s p =
       let done = says 0 0 0 (settled s (op .rest s .cached ++ nameOf (p - 4) ∷ [])) in

@@ -1,15 +1,14 @@
--- DEMAND 3: two runs with the same requests answer alike, whatever the memory held and the tasks wrote; no call changes a live payload. Assumes nothing.
+-- WHAT DEMAND 3 SPEAKS OF: runs of a heap with the words that its tasks may write, the machine without memory, and what two heaps have in common.
 use mathlib.Core.Path.{_≡_}
 use mathlib.Core.List.{List, _∷_, _++_}
-use Prim.Native.Nat.{ℕ, _+_, _-_, _/_, _<_}
+use Prim.Native.Nat.{ℕ, _+_, _/_, _<_}
 use Rattle.rules.specs.Lists.{Mem}
 use Rattle.rules.specs.Ops.{Ops}
-use Rattle.rules.specs.Chunks.{Chunk, free, busy, total}
+use Rattle.rules.specs.Chunks.{Chunk, busy, total}
 use Rattle.rules.specs.Tags.{Tag}
-use Rattle.rules.specs.Search.{at}
-use Rattle.rules.specs.TwoRuns.{Acts, requests}
+use Rattle.rules.specs.TwoRuns.{Acts}
 use Rattle.rules.specs.TwoRuns as two
-use Rattle.rules.specs.Rules.{Figures, Outcome, nameOf, live}
+use Rattle.rules.specs.Rules.{Figures, Outcome, nameOf}
 use Rattle.rules.specs.Machine.{Model, Request, ask, give, Answer, answerOf, callM}
 use Rattle.rules.specs.Sound.{Shows}
 use Rattle.rules.specs.Demands.{hand, back}
@@ -24,10 +23,12 @@ pub record LiveWord (m : Model) (i : ℕ) : Type 0 where
   pub high : i < (total pre + size) / 4
   pub cold : Mem (nameOf (total pre)) (m .figs .cached) → ⊥
 
+-- the rules without memory as a machine
 abbrev pub machine : ℕ → two.Machine Model Request Answer
 machine places = record { step = λ q m. callM places q m .after; reply = λ q m. answerOf (callM places q m) }
 
 module _ {S : Type 0} (op : Ops S Figures) (most places : ℕ) where
+  -- a request to a state
   unfoldable pub call : Request → S → Outcome S
   call (ask n) s = hand op most places s n
   call (give p) s = back op most places s p

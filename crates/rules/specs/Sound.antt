@@ -1,4 +1,4 @@
--- SOUND (document 01), clause by clause: a state shows a model, its layout, its six orders and its figures.
+-- SOUND (document 01), clause by clause: a state shows a model, its chunks, its six orders and its figures.
 use mathlib.Core.Path.{_≡_}
 use mathlib.Core.Bool.{true}
 use mathlib.Core.List.{List, [], _∷_}
@@ -40,7 +40,9 @@ pub record FiguresRight (f : Figures) (b : ℕ) (cs : List Chunk) : Type 0 where
   pub ends : Under (f .high) 0 cs
 
 module _ {S : Type 0} (op : Ops S Figures) (most places : ℕ) where
+  -- the state s shows the model m
   pub record Shows (s : S) (m : Model) : Type 0 where
+    -- six links each way; the record's figures and word count, an accepted length
     pub six : op .six s ≡ true
     pub figs : op .rest s ≡ m .figs
     pub words : m .figs .words ≡ op .count s
@@ -53,8 +55,10 @@ module _ {S : Type 0} (op : Ops S Figures) (most places : ℕ) where
     -- each list, followed from its sentinel, is its order, prev mirroring next; the orders hold exactly the free chunks, by class
     pub lists : (k : ℕ) → k < 6 → Seg (op .next s) (op .prev s) k (m .orders k) k
     pub exact : Exact classOf (m .orders) (frees 0 (m .cs))
+    -- the cached ones and the figures are right
     pub cache : CacheRight places (m .figs .cached) (m .cs)
     pub right : FiguresRight (m .figs) (4 * (op .count s - 1)) (m .cs)
 
+  -- it is sound if it shows some model
   abbrev pub Sound : S → Type 0
   Sound s = (m : Model) × Shows s m

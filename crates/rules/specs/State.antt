@@ -2,13 +2,14 @@
 -- of chunks in the words, as the link width has them.
 use mathlib.Core.Bool.{false}
 use mathlib.Core.List.{List}
-use Prim.Native.Nat.{ℕ, _-_}
-use lib.Dec.{ltb, eqb}
+use Prim.Native.Nat.{ℕ}
+use lib.Dec.{eqb}
 use lib.ListN.{length, getD, set}
 use Rattle.words.specs.Choice.{pick}
 use Rattle.words.specs.Links.{Width, prev, next, nodeLink, setSentinel, setChunkLink}
 use Rattle.rules.specs.Ops.{Ops}
 
+-- a record's links, the words, and what else the record holds
 pub record Heap (R : Type 0) : Type 0 where
   pub prevs : List ℕ
   pub nexts : List ℕ
@@ -16,6 +17,7 @@ pub record Heap (R : Type 0) : Type 0 where
   pub rest : R
 
 module _ {R : Type 0} (W : Width) where
+  -- the operations on it, for a link width
   abbrev pub ops : Ops (Heap R) R
   ops = record {
     next = λ s x. nodeLink W next (s .nexts) (s .words) x;

@@ -1,7 +1,7 @@
 -- THE STEPS of document 01's "Making, handing out, taking back", as functions that compute: what each stores, on any words, sound or not. Each step first
 -- unlinks, then writes tags, and lists last. `w` is the word of a header, `n` a length in bytes.
 use mathlib.Core.Bool.{Bool, true, false}
-use Prim.Native.Nat.{ℕ, _+_, _-_, _*_, _/_}
+use Prim.Native.Nat.{ℕ, _+_, _-_, _/_}
 use lib.Dec.{leb, ltb}
 use Rattle.words.specs.Choice.{pick}
 use Rattle.words.specs.Tags.{headerOf, lengthOf, freeᵇ, leftFreeᵇ, leftUsed, leftFreed, rightOf, footerOf}

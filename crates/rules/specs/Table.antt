@@ -1,14 +1,15 @@
 -- DOCUMENT 01, "Reckoned by hand": the P entries, as one table and one claim about the rules themselves. A table is true of a kind of heap, so that another
 -- link width or number of cache places can be held to it too.
 use mathlib.Core.Path.{_≡_, refl}
-use mathlib.Core.Bool.{Bool, true, false, _&&_}
+use mathlib.Core.Bool.{Bool, true, _&&_}
 use mathlib.Core.List.{List, [], _∷_}
 use Prim.Native.Nat.{ℕ}
 use lib.Dec.{eqb}
 use lib.ListN.{getD, replicate}
 use Rattle.words.specs.Sizes.{roundedOf, classOf}
 use Rattle.words.specs.Links.{Width, narrow, setLinkAt}
-use Rattle.rules.specs.Steps.{unlink, link, setLeft, clearLeft, markFree, markUsed, oneChunk, returnExcess, takeChunk, leftFree, rightFree, merge, merged, releaseChunk}
+use Rattle.rules.specs.Steps.{unlink, link, setLeft, clearLeft, markFree, markUsed, oneChunk, returnExcess, takeChunk}
+use Rattle.rules.specs.Steps.{leftFree, rightFree, merge, merged, releaseChunk}
 use Rattle.rules.specs.State.{ops}
 use Rattle.rules.specs.Search.{findWalk, searchAll}
 use Rattle.rules.specs.Place.{usedAt, usedWalk}
@@ -83,5 +84,7 @@ table =
 
 -- THE ONE CLAIM
 pub claim : all base table ≡ true
-unfolding call handOut takeBack live choose listed make serve fromCache fromList firstFit settled link unlink setLeft clearLeft markFree markUsed oneChunk returnExcess takeChunk leftFree rightFree merge merged releaseChunk setLinkAt classOf findWalk searchAll usedWalk usedAt soundᵇ showsᵇ candidate legalᵇ calmᵇ tagsᵇ segᵇ belowᵇ everyᵇ slotᵇ exactᵇ distinctᵇ underᵇ cacheᵇ figuresᵇ tile walk frees
+unfolding call handOut takeBack live choose listed make serve fromCache fromList firstFit settled link unlink setLeft clearLeft markFree markUsed oneChunk
+    returnExcess takeChunk leftFree rightFree merge merged releaseChunk setLinkAt classOf findWalk searchAll usedWalk usedAt soundᵇ showsᵇ candidate
+    legalᵇ calmᵇ tagsᵇ segᵇ belowᵇ everyᵇ slotᵇ exactᵇ distinctᵇ underᵇ cacheᵇ figuresᵇ tile walk frees
 claim = refl

@@ -1,5 +1,4 @@
--- Headers, footers and the guard: the words f, from byte b on, show the chunks cs; l says whether what is left of them is used.
--- Assumes nothing.
+-- TAGS AGAINST CHUNKS: the words f, from byte b on, show the chunks cs by headers, footers and the guard; l says whether what is left of them is used.
 use mathlib.Core.Path.{_≡_}
 use mathlib.Core.Logic.{_⊎_}
 use mathlib.Core.Bool.{Bool, false}
@@ -13,14 +12,16 @@ abbrev pub headTag : List Chunk → ℕ
 headTag [] = 2
 headTag (c ∷ cs) = c .len + 2 * bit (c .used)
 
+-- a free chunk's last word is its length
 abbrev pub Foot : (ℕ → ℕ) → ℕ → Chunk → Type 0
 Foot f b c = c .used ≡ false → f ((b + c .len) / 4 - 1) ≡ c .len
 
+-- header by header, up to the guard
 abbrev pub Tags : (ℕ → ℕ) → ℕ → Bool → List Chunk → Type 0
 Tags f b l [] = f (b / 4) ≡ 2 + bit l
 Tags f b l (c ∷ cs) = (f (b / 4) ≡ headTag (c ∷ cs) + bit l) × Foot f b c × Tags f (b + c .len) (c .used) cs
 
--- the words that tags stand in
+-- word i is a header, the footer of a free chunk, or the guard
 abbrev pub Tag : ℕ → List Chunk → ℕ → Type 0
 Tag b [] i = i ≡ b / 4
 Tag b (c ∷ cs) i = (i ≡ b / 4) ⊎ (((c .used ≡ false) × (i ≡ (b + c .len) / 4 - 1)) ⊎ Tag (b + c .len) cs i)

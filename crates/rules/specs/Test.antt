@@ -1,5 +1,5 @@
 -- SOUND AS A TEST: what answer 5 goes by. It reads the chunks from the headers and the orders from the links, and tests each clause of Sound on them.
--- Nobody need believe it: `sound-true` and `true-sound` say that it agrees with Sound.
+-- Nobody need believe it: `SoundTested` (specs/Claims.antt) says that it agrees with Sound. Each test has the name of its clause, with ᵇ.
 use mathlib.Core.Bool.{true, false, Bool, not}
 use mathlib.Core.List.{List, [], _∷_}
 use Prim.Native.Nat.{ℕ, zero, suc, _+_, _-_, _*_, _/_, _%_}
@@ -16,7 +16,7 @@ use Rattle.rules.specs.Ops.{Ops}
 use Rattle.rules.specs.Rules.{Figures, byteOf, listed}
 use Rattle.rules.specs.Machine.{Model}
 
--- the layout that the headers give, from byte e on
+-- the chunks that the headers give, from byte e on
 unfoldable pub tile : (ℕ → ℕ) → ℕ → ℕ → List Chunk
 tile f zero e = []
 tile f (suc fuel) e =
@@ -24,10 +24,12 @@ tile f (suc fuel) e =
     let r : List Chunk = record { len = n; used = pick (eqb (f (e / 4) / 2 % 2) 0) false true } ∷ tile f fuel (e + n) in
     pick (eqb n 0) [] r
 
+-- one and the other
 abbrev pub both : Bool → Bool → Bool
 both true b = b
 both false b = false
 
+-- THE CHUNKS: legal lengths, no two free ones touching, tags
 unfoldable pub legalᵇ : List Chunk → Bool
 legalᵇ [] = true
 legalᵇ (c ∷ cs) = both (leb 16 (c .len)) (both (eqb (c .len % 8) 0) (legalᵇ cs))
@@ -41,10 +43,12 @@ tagsᵇ f b l [] = eqb (f (b / 4)) (2 + bit l)
 tagsᵇ f b l (c ∷ cs) =
     both (eqb (f (b / 4)) (headTag (c ∷ cs) + bit l)) (both (either (c .used) (eqb (f ((b + c .len) / 4 - 1)) (c .len))) (tagsᵇ f (b + c .len) (c .used) cs))
 
+-- THE LISTS: mirrored links
 unfoldable pub segᵇ : (ℕ → ℕ) → (ℕ → ℕ) → ℕ → List ℕ → ℕ → Bool
 segᵇ nx pv a [] b = both (eqb (nx a) b) (eqb (pv b) a)
 segᵇ nx pv a (x ∷ xs) b = both (eqb (nx a) x) (both (eqb (pv x) a) (segᵇ nx pv x xs b))
 
+-- f holds of every number below n, and of every member
 unfoldable pub belowᵇ : (ℕ → Bool) → ℕ → Bool
 belowᵇ f zero = true
 belowᵇ f (suc n) = both (f n) (belowᵇ f n)
@@ -53,6 +57,7 @@ unfoldable pub everyᵇ : {A : Type 0} → (A → Bool) → List A → Bool
 everyᵇ f [] = true
 everyᵇ f (x ∷ xs) = both (f x) (everyᵇ f xs)
 
+-- link x names a free chunk of class k; the orders hold exactly the free chunks
 unfoldable pub slotᵇ : ℕ → ℕ → List Slot → Bool
 slotᵇ x k [] = false
 slotᵇ x k (t ∷ F) = either (both (eqb x (t .name)) (eqb (classOf (t .len)) k)) (slotᵇ x k F)
@@ -60,6 +65,7 @@ slotᵇ x k (t ∷ F) = either (both (eqb x (t .name)) (eqb (classOf (t .len)) k
 unfoldable pub exactᵇ : (ℕ → List ℕ) → List Slot → Bool
 exactᵇ O F = both (everyᵇ (λ t. listed (t .name) (O (classOf (t .len)))) F) (belowᵇ (λ k. everyᵇ (λ x. slotᵇ x k F) (O k)) 6)
 
+-- THE FIGURES: each once; no used chunk ends beyond h; the cache; the sums
 unfoldable pub distinctᵇ : List ℕ → Bool
 distinctᵇ [] = true
 distinctᵇ (x ∷ xs) = both (not (listed x xs)) (distinctᵇ xs)
@@ -73,7 +79,8 @@ cacheᵇ places ks cs = both (everyᵇ (λ x. both (leb 6 x) (leb 1 (usedAt cs (
 
 unfoldable pub figuresᵇ : Figures → ℕ → List Chunk → Bool
 figuresᵇ f b cs =
-    both (eqb (f .inUse) (usedSum cs)) (both (leb (f .inUse) (f .peak)) (both (leb (f .peak) (f .high)) (both (leb (f .high) b) (both (eqb (f .high % 8) 0) (underᵇ (f .high) 0 cs)))))
+    both (eqb (f .inUse) (usedSum cs)) (both (leb (f .inUse) (f .peak)) (both (leb (f .peak) (f .high))
+    (both (leb (f .high) b) (both (eqb (f .high % 8) 0) (underᵇ (f .high) 0 cs)))))
 
 module _ {S : Type 0} (op : Ops S Figures) (most places : ℕ) where
   -- the one candidate: the headers' chunks, the links' orders, the record's figures
@@ -85,6 +92,7 @@ module _ {S : Type 0} (op : Ops S Figures) (most places : ℕ) where
         figs = op .rest s;
       }
 
+  -- s shows m
   unfoldable pub showsᵇ : S → Model → Bool
   showsᵇ s m =
       both (op .six s) (both (eqb (m .figs .words) (op .count s))
@@ -93,5 +101,6 @@ module _ {S : Type 0} (op : Ops S Figures) (most places : ℕ) where
       (both (belowᵇ (λ k. segᵇ (op .next s) (op .prev s) k (m .orders k) k) 6) (both (exactᵇ (m .orders) (frees 0 (m .cs)))
       (both (cacheᵇ places (m .figs .cached) (m .cs)) (figuresᵇ (m .figs) (4 * (op .count s - 1)) (m .cs)))))))))))))
 
+  -- s is sound
   unfoldable pub soundᵇ : S → Bool
   soundᵇ s = showsᵇ s (candidate s)

@@ -3,12 +3,13 @@
 use mathlib.Core.Path.{_≡_, refl, sym, ap, _∙_, subst}
 use mathlib.Core.Bool.{Bool, true, false}
 use mathlib.Core.List.{List, [], _∷_, _++_, List·Memᴰ·head, List·Memᴰ·tail, List·Memᴰ·not-nil}
-use Prim.Native.Nat.{ℕ, zero, suc, _+_, _-_, _*_, _/_, _%_, _≤_, _<_}
+use Prim.Native.Nat.{ℕ, zero, suc, _+_, _*_, _/_, _%_, _≤_, _<_}
 use native.Mathlib.Nat.{not-suc-le-zero, le-of-suc-le-suc}
 use native.Mathlib.Omega.{arith}
 use lib.Dec.{eqb}
 use lib.ListN.{length, length-append}
 use borrow.Author.Tests.{ne-eqb}
+use Rattle.words.proofs.Laws.Choice.{bit-small}
 use Rattle.words.specs.Choice.{pick, bit}
 use Rattle.rules.specs.Lists.{Mem, Distinct, Seg}
 use Rattle.rules.proofs.Lists.{around}
@@ -23,7 +24,7 @@ use Rattle.rules.proofs.Exact.{frees-from}
 use Rattle.rules.specs.Tags.{Tags}
 use Rattle.rules.proofs.Part.{legal-front, legal-back}
 use Rattle.rules.proofs.Calls.{Whole, total-8}
-use Rattle.rules.proofs.Place.{free-at, header-len, header-used, bit-le}
+use Rattle.rules.proofs.Place.{free-at, header-len, header-used}
 use Rattle.rules.specs.Test.{tile}
 
 -- a ring that does not pass its sentinel has each node once: no test
@@ -92,19 +93,21 @@ module _ {S R : Type 0} {op : Ops S R} (L : LinkStore op) (cls : ℕ → ℕ) (c
           let a16 : 16 ≤ p .0 = a .0 in
           let t8 = total-8 (f .pre) (legal-front (f .pre) (free (p .0) ∷ f .post) l′) in
           let y = total-append (f .pre) (free (p .0) ∷ f .post) in
-          let w : total (f .pre ++ free (p .0) ∷ f .post) ≡ L .bytes = sym (ap total (f .is)) ∙ z in
-          (subst (λ (v : ℕ). L .Node v) (sym (f .named)) (L .fit (0 + total (f .pre)) (omega arith) (omega arith)), (let q : x ≡ (0 + total (f .pre)) / 4 + 6 = f .named in omega arith))
+          let w : total (f .pre ++ free (p .0) ∷ f .post) ≡ L .bytes = sym (ap total (f .is)) ∙ z in (
+            subst (λ (v : ℕ). L .Node v) (sym (f .named)) (L .fit (0 + total (f .pre)) (omega arith) (omega arith)),
+            (let q : x ≡ (0 + total (f .pre)) / 4 + 6 = f .named in omega arith),
+          )
 
 pub tile-tags : (f : ℕ → ℕ) (fuel e : ℕ) (l : Bool) (cs : List Chunk) → Legal cs → length cs < fuel → Tags f e l cs → tile f fuel e ≡ cs
 unfolding tile
 tile-tags f zero e l cs g h t = absurd (not-suc-le-zero h)
 tile-tags f (suc fuel) e l [] g h t =
-    let k = bit-le l in
+    let k = bit-small l in
     let z : f (e / 4) / 4 * 4 ≡ 0 = header-len (f (e / 4)) 0 1 (bit l) refl (omega arith) k (let q : f (e / 4) ≡ 2 + bit l = t in omega arith) in
     rw z refl
 tile-tags f (suc fuel) e l (c ∷ cs) g h t =
-    let kl = bit-le l in
-    let ku = bit-le (c .used) in
+    let kl = bit-small l in
+    let ku = bit-small (c .used) in
     let n16 : 16 ≤ c .len = g .0 in
     let z : f (e / 4) / 4 * 4 ≡ c .len = header-len (f (e / 4)) (c .len) (bit (c .used)) (bit l) (g .1) ku kl (t .0) in
     let u : f (e / 4) / 2 % 2 ≡ bit (c .used) = header-used (f (e / 4)) (c .len) (bit (c .used)) (bit l) (g .1) ku kl (t .0) in

@@ -1,4 +1,4 @@
--- The rules on states follow the rules without memory, cache and figures included; so soundness is kept. Assumes nothing.
+-- THE RULES ON STATES FOLLOW THE RULES WITHOUT MEMORY, cache and figures included; so soundness is kept. Assumes nothing.
 use mathlib.Core.Path.{_≡_, refl, sym, ap, _∙_, subst, fun-ext}
 use mathlib.Core.Logic.{_≢_, _⊎_, inl, inr}
 use mathlib.Core.Bool.{Bool, true, false}
@@ -10,12 +10,13 @@ use lib.Dec.{eqb, leb, ltb}
 use lib.ListN.{length, getD, drop, length-append}
 use lib.Seq.{take-append-seam, getD-append-seam}
 use borrow.Author.Tests.{eqb-true, eqb-false, leb-true}
+use Rattle.words.proofs.Laws.Choice.{bit-small}
 use Rattle.words.specs.Choice.{pick, bit}
 use Rattle.rules.specs.Lists.{Mem, Distinct, Seg}
 use Rattle.rules.specs.Ops.{Ops}
 use Rattle.rules.specs.Steps.{portion, lengthAt, takeChunk, releaseChunk, leftFree}
 use Rattle.rules.proofs.Bytes.{takeStep, releaseStep, take-words, release-words}
-use Rattle.rules.proofs.Store.{LinkStore}
+use Rattle.rules.proofs.Store.{LinkStore, Edition}
 use Rattle.rules.proofs.Rings.{ring-once}
 use Rattle.rules.specs.Chunks.{Chunk, free, busy, total, Legal, Calm, taken, release, usedSum}
 use Rattle.rules.proofs.Chunks.{total-append, taken-calm, release-calm}
@@ -30,12 +31,13 @@ use Rattle.rules.proofs.Take.{take-refines}
 use Rattle.rules.specs.Search.{Found, at, nowhere, lost}
 use Rattle.rules.proofs.Search.{find-fits, Fits, in-turn, search-walk}
 use Rattle.rules.specs.Place.{lenAt, usedAt}
-use Rattle.rules.proofs.Place.{free-at, len-at, index-at, used-walk, used-at, header-len, bit-le}
+use Rattle.rules.proofs.Place.{free-at, len-at, index-at, used-walk, used-at, header-len}
 use Rattle.words.specs.Sizes.{classOf, roundedOf, startOf}
-use Rattle.rules.proofs.Threshold.{cls6}
-use Rattle.rules.proofs.Audit.{enough}
+use Rattle.words.proofs.Laws.Sizes.{class-below}
+use Rattle.rules.proofs.Enough.{enough}
 use Rattle.rules.proofs.Named.{chunks-few, size-at, byte-at, size-same, listed-few}
-use Rattle.rules.specs.Rules.{Figures, Outcome, says, byteOf, nameOf, Chosen, none, one, behind, serves, choose, listed, withCached, counted, released, firstFit, fromList, fromCache, serve, handOut, live, settled, takeBack}
+use Rattle.rules.specs.Rules.{Figures, Outcome, says, byteOf, nameOf, Chosen, none, one, behind, serves, choose, listed, withCached, counted, released}
+use Rattle.rules.specs.Rules.{firstFit, fromList, fromCache, serve, handOut, live, settled, takeBack}
 use Rattle.rules.specs.Machine.{Model, sizeM, tookM, searched, searchM, fromListM, fromCacheM, handOutM, liveM, gaveM, settledM, takeBackM}
 use Rattle.rules.specs.Sound.{Accepted, Under, CacheRight, FiguresRight, Shows}
 use Rattle.rules.proofs.LayoutFacts.{release-used, taken-used, used-len, release-sums, taken-sums, under-more, under-release, under-taken}
@@ -104,7 +106,8 @@ under-sum : (h b : ℕ) (cs : List Chunk) → Under h b cs → (usedSum cs ≡ 0
 under-sum h b [] u = inl refl
 under-sum h b (c ∷ cs) u = go (c .used) refl (under-sum h (b + c .len) cs (u .1))
   where
-    go : (t : Bool) → c .used ≡ t → (usedSum cs ≡ 0) ⊎ (b + c .len + usedSum cs ≤ h) → (pick (c .used) (c .len) 0 + usedSum cs ≡ 0) ⊎ (b + (pick (c .used) (c .len) 0 + usedSum cs) ≤ h)
+    go : (t : Bool) → c .used ≡ t → (usedSum cs ≡ 0) ⊎ (b + c .len + usedSum cs ≤ h)
+        → (pick (c .used) (c .len) 0 + usedSum cs ≡ 0) ⊎ (b + (pick (c .used) (c .len) 0 + usedSum cs) ≤ h)
     go true e (inl q) = let a = u .0 in let f : pick (c .used) (b + c .len) 0 ≡ b + c .len = ap (λ (t : Bool). pick t (b + c .len) 0) e in
         let g : pick (c .used) (c .len) 0 ≡ c .len = ap (λ (t : Bool). pick t (c .len) 0) e in inr (omega arith)
     go true e (inr q) = let g : pick (c .used) (c .len) 0 ≡ c .len = ap (λ (t : Bool). pick t (c .len) 0) e in inr (omega arith)
@@ -161,12 +164,6 @@ drop-seam (d ∷ pre) c post = drop-seam pre c post
 abbrev model : List Chunk → (ℕ → List ℕ) → Figures → Model
 model cs O f = record { cs = cs; orders = O; figs = f }
 
--- AN EDITION: for each accepted length a link store over the same operations
-pub record Edition {S : Type 0} (op : Ops S Figures) (most places : ℕ) : Type 1 where
-  pub store : (n : ℕ) → Accepted most n → LinkStore op
-  pub bytes : (n : ℕ) (a : Accepted most n) → store n a .bytes ≡ 4 * (n - 1)
-  pub fit : (n : ℕ) (a : Accepted most n) (r : Figures) → length (r .cached) ≤ places → ((x : ℕ) → Mem x (r .cached) → 6 ≤ x) → store n a .Fit r
-
 -- an outcome on states follows one on models
 pub record Follows {S : Type 0} (op : Ops S Figures) (most places : ℕ) (o : Outcome S) (q : Outcome Model) : Type 0 where
   pub number : o .number ≡ q .number
@@ -181,8 +178,9 @@ module _ {S : Type 0} {op : Ops S Figures} {most places : ℕ} (E : Edition op m
   abbrev F : Outcome S → Outcome Model → Type 0
   F = Follows op most places
 
-  -- BACK to Sound from the theory's form
-  pub shown : (n : ℕ) (a : Accepted most n) (t : S) (m : Model) → Whole (E .store n a) classOf cls6 t (m .orders) (m .cs) → Calm (m .cs) → op .rest t ≡ m .figs → m .figs .words ≡ n
+  -- from a whole heap BACK to what a state shows
+  pub shown : (n : ℕ) (a : Accepted most n) (t : S) (m : Model) → Whole (E .store n a) classOf class-below t (m .orders) (m .cs) → Calm (m .cs) → op .rest t ≡ m .figs
+      → m .figs .words ≡ n
       → CacheRight places (m .figs .cached) (m .cs) → FiguresRight (m .figs) (4 * (n - 1)) (m .cs) → Sh t m
   shown n a t m w k r e c f =
       let b = E .bytes n a in
@@ -203,7 +201,7 @@ module _ {S : Type 0} {op : Ops S Figures} {most places : ℕ} (E : Edition op m
         right = subst (λ (x : ℕ). FiguresRight (m .figs) (4 * (x - 1)) (m .cs)) (sym y) f;
       }
 
-  pub whole-rest : (L : LinkStore op) (s : S) (r : Figures) (O : ℕ → List ℕ) (cs : List Chunk) → Whole L classOf cls6 s O cs → Whole L classOf cls6 (op .setRest s r) O cs
+  pub whole-rest : (L : LinkStore op) (s : S) (r : Figures) (O : ℕ → List ℕ) (cs : List Chunk) → Whole L classOf class-below s O cs → Whole L classOf class-below (op .setRest s r) O cs
   whole-rest L s r O cs w = record {
     rings = record {
       good = L .good-setRest s r (w .rings .good);
@@ -227,10 +225,10 @@ module _ {S : Type 0} {op : Ops S Figures} {most places : ℕ} (E : Edition op m
     pub bytes : L .bytes ≡ 4 * (op .count s - 1)
     bytes = E .bytes (op .count s) (h .accepted)
 
-    -- INTO the theory's form
-    pub whole : Whole L classOf cls6 s (m .orders) (m .cs)
+    -- INTO a whole heap
+    pub whole : Whole L classOf class-below s (m .orders) (m .cs)
     whole =
-        enough L classOf cls6 s (m .orders) (m .cs) (L .good-is s bytes (h .accepted .0) (h .six)) (h .legal) (h .fills ∙ sym bytes) (h .tags) (h .lists) (h .exact)
+        enough L classOf class-below s (m .orders) (m .cs) (L .good-is s bytes (h .accepted .0) (h .six)) (h .legal) (h .fills ∙ sym bytes) (h .tags) (h .lists) (h .exact)
 
     -- a chunk takes at least 16 bytes
     pub few : length (m .cs) ≤ op .count s / 4
@@ -240,13 +238,13 @@ module _ {S : Type 0} {op : Ops S Figures} {most places : ℕ} (E : Edition op m
     pub search-same : (sound : S → Bool) (z : ℕ) → firstFit op places sound s z ≡ searchM m z
     unfolding firstFit
     search-same sound z =
-        let l = listed-few L classOf cls6 s (m .orders) (m .cs) whole (6 - startOf z) (startOf z) (omega arith) in
+        let l = listed-few L classOf class-below s (m .orders) (m .cs) whole (6 - startOf z) (startOf z) (omega arith) in
         let c = few in
         search-walk (op .next s) (op .prev s) (lengthAt op s) (sizeM m) z (op .count s / 4) (m .orders) (6 - startOf z) (startOf z) 0
         (λ j q. let hj : j < 6 = omega arith in (
           (ring-once L s (m .orders) (whole .rings) j hj) .0,
           h .lists j hj,
-          size-same L classOf cls6 s (m .orders) (m .cs) whole j hj,
+          size-same L classOf class-below s (m .orders) (m .cs) whole j hj,
         ))
         (omega arith)
 
@@ -260,7 +258,7 @@ module _ {S : Type 0} {op : Ops S Figures} {most places : ℕ} (E : Edition op m
     pub met-size : (z x : ℕ) → Mem x (searched m z) → lengthAt op s x ≡ sizeM m x
     met-size z x i =
         let t = in-turn (m .orders) (6 - startOf z) (startOf z) x i in
-        size-same L classOf cls6 s (m .orders) (m .cs) whole (t .0) (let p = t .2 in omega arith) x (t .3)
+        size-same L classOf class-below s (m .orders) (m .cs) whole (t .0) (let p = t .2 in omega arith) x (t .3)
 
     -- a used chunk's length, read from its header
     pub used-size : (x : ℕ) → 6 ≤ x → 0 < usedAt (m .cs) (byteOf x) → lengthAt op s x ≡ usedAt (m .cs) (byteOf x)
@@ -271,7 +269,8 @@ module _ {S : Type 0} {op : Ops S Figures} {most places : ℕ} (E : Edition op m
         let t = tags-back (op .word s) 0 true (u .pre) (busy n ∷ u .post) (subst (λ cs. Tags (op .word s) 0 true cs) (u .is) (h .tags)) in
         let y : (x - 6) * 4 ≡ total (u .pre) = u .byte in
         let q : x - 6 ≡ (0 + total (u .pre)) / 4 = omega arith in
-        ap (λ (i : ℕ). op .word s i / 4 * 4) q ∙ header-len (op .word s ((0 + total (u .pre)) / 4)) n 1 (bit (lastUsed true (u .pre))) (l .1) (omega arith) (bit-le (lastUsed true (u .pre))) (t .0)
+        ap (λ (i : ℕ). op .word s i / 4 * 4) q ∙ header-len (op .word s ((0 + total (u .pre)) / 4)) n 1 (bit (lastUsed true (u .pre))) (l .1) (omega arith)
+        (bit-small (lastUsed true (u .pre))) (t .0)
 
     pub used-same : (x : ℕ) → 6 ≤ x → 0 < usedAt (m .cs) (byteOf x) → lengthAt op s x ≡ sizeM m x
     used-same x h6 p = used-size x h6 p ∙ sym (used-len (m .cs) (byteOf x) (h .legal) p)
@@ -305,7 +304,7 @@ module _ {S : Type 0} {op : Ops S Figures} {most places : ℕ} (E : Edition op m
       let ln = legal-back pre (free n ∷ post) (h .legal) in
       let t8 = total-8 pre lp in
       let b : byteOf x ≡ 0 + total pre = byte-at pre x lp e in
-      let y : lengthAt op s x ≡ n = size-at L classOf cls6 s O pre n post x e w in
+      let y : lengthAt op s x ≡ n = size-at L classOf class-below s O pre n post x e w in
       let i = index-at pre (free n) post (0 + total pre) lp (omega arith) in
       let j = len-at pre (free n) post (0 + total pre) lp (omega arith) in
       let p8 = portion-8 n z (ln .1) z8 in
@@ -325,8 +324,10 @@ module _ {S : Type 0} {op : Ops S Figures} {most places : ℕ} (E : Edition op m
         room = h .cache .room;
       } in
       rw (take-words op s (x - 6) (lengthAt op s x) z (omega arith), y, b, i, j, h .figs)
-      (shown (op .count s) a (op .setRest (takeStep op classOf s (0 + total pre) n z) g) (model (taken (pre ++ free n ∷ post) (length pre) z) (takenOrders classOf O (0 + total pre) n z) g)
-      (whole-rest L (takeStep op classOf s (0 + total pre) n z) g (takenOrders classOf O (0 + total pre) n z) (taken (pre ++ free n ∷ post) (length pre) z) (take-refines L classOf cls6 s O pre n post z z16 z8 (h .calm) w))
+      (shown (op .count s) a (op .setRest (takeStep op classOf s (0 + total pre) n z) g)
+      (model (taken (pre ++ free n ∷ post) (length pre) z) (takenOrders classOf O (0 + total pre) n z) g)
+      (whole-rest L (takeStep op classOf s (0 + total pre) n z) g (takenOrders classOf O (0 + total pre) n z) (taken (pre ++ free n ∷ post) (length pre) z)
+      (take-refines L classOf class-below s O pre n post z z16 z8 (h .calm) w))
       (taken-calm (pre ++ free n ∷ post) (length pre) z (h .calm) (free-seam pre n post))
       (L .rest-setRest (takeStep op classOf s (0 + total pre) n z) g (E .fit (op .count s) a g (h .cache .room) (λ k q. (h .cache .used k q) .0)))
       (h .words) c
@@ -337,18 +338,20 @@ module _ {S : Type 0} {op : Ops S Figures} {most places : ℕ} (E : Edition op m
       free-seam pre n post = ap (λ (c : Chunk). c .used) (getD-append-seam pre (free n) post (busy 0))
 
   -- the free bytes on the left of a used chunk: words that stand before it
-  pub left-there : (L : LinkStore op) (s : S) (pre : List Chunk) (n : ℕ) (post : List Chunk) (k : ℕ) → byteOf k ≡ total pre → 6 ≤ k → Legal (pre ++ busy n ∷ post) → Tags (op .word s) 0 true (pre ++ busy n ∷ post)
+  pub left-there : (L : LinkStore op) (s : S) (pre : List Chunk) (n : ℕ) (post : List Chunk) (k : ℕ) → byteOf k ≡ total pre → 6 ≤ k → Legal (pre ++ busy n ∷ post)
+      → Tags (op .word s) 0 true (pre ++ busy n ∷ post)
       → (leftFree op s (k - 6) % 8 ≡ 0) × (leftFree op s (k - 6) / 4 ≤ k - 6)
   left-there L s pre n post k e k6 l t =
       let q : k - 6 ≡ (0 + total pre) / 4 = omega arith in
-      let r : leftFree op s (k - 6) ≡ freeLast 0 pre = ap (λ (w : ℕ). leftFree op s w) q ∙ left-read L classOf cls6 s pre n post l t in
+      let r : leftFree op s (k - 6) ≡ freeLast 0 pre = ap (λ (w : ℕ). leftFree op s w) q ∙ left-read L classOf class-below s pre n post l t in
       let z = freeLast-8 0 pre refl (legal-front pre (busy n ∷ post) l) in
       let y = freeLast-le 0 pre in
       (omega arith, omega arith)
 
   -- RELEASED, the chunks ks staying cached
   gave : (s : S) (pre : List Chunk) (n : ℕ) (post : List Chunk) (O : ℕ → List ℕ) (f : Figures) (k : ℕ) (ks : List ℕ) → byteOf k ≡ total pre → 6 ≤ k
-      → 0 < usedAt (pre ++ busy n ∷ post) (byteOf k) → ((x : ℕ) → Mem x ks → (6 ≤ x) × (0 < usedAt (pre ++ busy n ∷ post) (byteOf x))) → Distinct (k ∷ ks) → length ks ≤ places
+      → 0 < usedAt (pre ++ busy n ∷ post) (byteOf k) → ((x : ℕ) → Mem x ks → (6 ≤ x) × (0 < usedAt (pre ++ busy n ∷ post) (byteOf x))) → Distinct (k ∷ ks)
+      → length ks ≤ places
       → Sh s (model (pre ++ busy n ∷ post) O f)
       → Sh (op .setRest (releaseChunk op s (k - 6) (lengthAt op s k)) (released (op .rest s) ks (lengthAt op s k)))
       (gaveM (model (pre ++ busy n ∷ post) O f) ks (byteOf k) (lenAt (pre ++ busy n ∷ post) (byteOf k)))
@@ -377,12 +380,21 @@ module _ {S : Type 0} {op : Ops S Figures} {most places : ℕ} (E : Edition op m
       rw (release-words op s (k - 6) (lengthAt op s k) (omega arith) (lt .1), y, b, i, j′, take-append-seam pre (busy n ∷ post), drop-seam pre (busy n) post, h .figs)
       (shown (op .count s) a (op .setRest (releaseStep op classOf s (0 + total pre) n) g)
       (model cs (mergedOrders classOf O (0 + total pre - freeLast 0 pre) (freeLast 0 pre) n (freeHead post)) g)
-      (whole-rest L (releaseStep op classOf s (0 + total pre) n) g (mergedOrders classOf O (0 + total pre - freeLast 0 pre) (freeLast 0 pre) n (freeHead post)) cs (release-refines L classOf cls6 s O pre n post (h .calm) w))
+      (whole-rest L (releaseStep op classOf s (0 + total pre) n) g (mergedOrders classOf O (0 + total pre - freeLast 0 pre) (freeLast 0 pre) n (freeHead post)) cs
+      (release-refines L classOf class-below s O pre n post (h .calm) w))
       (release-calm (pre ++ busy n ∷ post) (length pre) (h .calm))
       (L .rest-setRest (releaseStep op classOf s (0 + total pre) n) g (E .fit (op .count s) a g rm (λ x q. (us x q) .0)))
       (h .words) c
       (let hp = h .right .peak in
-      record { inUse = omega arith; peak = omega arith; high = h .right .high; heap = h .right .heap; eights = h .right .eights; ends = under-release (f .high) 0 (pre ++ busy n ∷ post) (length pre) (h .right .ends) }))
+      record {
+        inUse = omega arith;
+        peak = omega arith;
+        high = h .right .high;
+        heap = h .right .heap;
+        eights = h .right .eights;
+        ends = under-release (f .high) 0
+            (pre ++ busy n ∷ post) (length pre) (h .right .ends);
+      }))
     where
       other : (x : ℕ) → Mem x ks → 6 ≤ x → byteOf x ≢ total pre
       other x q x6 v = d .0 (subst (λ (t : ℕ). Mem t ks) (let r : x ≡ k = omega arith in r) q)
@@ -395,7 +407,8 @@ module _ {S : Type 0} {op : Ops S Figures} {most places : ℕ} (E : Edition op m
     settles (k ∷ ks) us d q = go (leb (length (k ∷ ks)) places) refl
       where
         go : (t : Bool) → leb (length (k ∷ ks)) places ≡ t
-            → Sh (pick t (op .setRest s (withCached (op .rest s) (k ∷ ks))) (op .setRest (releaseChunk op s (k - 6) (lengthAt op s k)) (released (op .rest s) ks (lengthAt op s k))))
+            → Sh (pick t (op .setRest s (withCached (op .rest s) (k ∷ ks)))
+            (op .setRest (releaseChunk op s (k - 6) (lengthAt op s k)) (released (op .rest s) ks (lengthAt op s k))))
             (pick t (model (m .cs) (m .orders) (withCached (m .figs) (k ∷ ks))) (gaveM m ks (byteOf k) (sizeM m k)))
         go true e = recached s m h (k ∷ ks) (record { used = us; once = d; room = leb-true (length (k ∷ ks)) places e })
         go false e =
@@ -403,9 +416,11 @@ module _ {S : Type 0} {op : Ops S Figures} {most places : ℕ} (E : Edition op m
             let n = usedAt (m .cs) (byteOf k) in
             let u = used-at (m .cs) (byteOf k) (let v = p .1 in omega arith) in
             subst (λ cs. Sh s (model cs (m .orders) (m .figs)) → ((x : ℕ) → Mem x (k ∷ ks) → (6 ≤ x) × (0 < usedAt cs (byteOf x)))
-            → Sh (op .setRest (releaseChunk op s (k - 6) (lengthAt op s k)) (released (op .rest s) ks (lengthAt op s k))) (gaveM (model cs (m .orders) (m .figs)) ks (byteOf k) (lenAt cs (byteOf k))))
+            → Sh (op .setRest (releaseChunk op s (k - 6) (lengthAt op s k)) (released (op .rest s) ks (lengthAt op s k)))
+            (gaveM (model cs (m .orders) (m .figs)) ks (byteOf k) (lenAt cs (byteOf k))))
             (sym (u .is))
-            (λ g v. gave s (u .pre) n (u .post) (m .orders) (m .figs) k ks (u .byte) (p .0) ((v k (List·Memᴰ·head refl)) .1) (λ x i. v x (List·Memᴰ·tail i)) d (omega arith) g)
+            (λ g v. gave s (u .pre) n (u .post) (m .orders) (m .figs) k ks (u .byte) (p .0) ((v k (List·Memᴰ·head refl)) .1) (λ x i. v x (List·Memᴰ·tail i)) d
+            (omega arith) g)
             h us
 
     -- HANDING OUT from a list
@@ -420,7 +435,8 @@ module _ {S : Type 0} {op : Ops S Figures} {most places : ℕ} (E : Edition op m
           value = refl;
           compared = refl;
           after = subst (λ cs. Sh s (model cs (m .orders) (m .figs))
-              → Sh (op .setRest (takeChunk op s (x - 6) (lengthAt op s x) z) (counted (op .rest s) (portion (lengthAt op s x) z) (byteOf x + portion (lengthAt op s x) z)))
+              → Sh (op .setRest (takeChunk op s (x - 6) (lengthAt op s x) z)
+              (counted (op .rest s) (portion (lengthAt op s x) z) (byteOf x + portion (lengthAt op s x) z)))
               (tookM (model cs (m .orders) (m .figs)) x (lenAt cs (byteOf x)) z))
               (sym (g .is)) (λ q. took s (g .pre) (r .0) (g .post) (m .orders) (m .figs) x z z16 z8 (g .named) q) h;
         }
@@ -435,7 +451,9 @@ module _ {S : Type 0} {op : Ops S Figures} {most places : ℕ} (E : Edition op m
           number = refl;
           value = refl;
           compared = refl;
-          after = recached s m h ks (let q = p .4 in let v = h .cache .room in record { used = λ y i. h .cache .used y (p .2 y i); once = p .3 (h .cache .once); room = omega arith });
+          after =
+              recached s m h ks (let q = p .4 in let v = h .cache .room in
+              record { used = λ y i. h .cache .used y (p .2 y i); once = p .3 (h .cache .once); room = omega arith });
         }
         go none p =
             rw (search-same s m h sound z) (lists-follow z z16 z8 (searchM m z) (find-fits (sizeM m) z (searched m z) 0))
@@ -493,7 +511,8 @@ module _ {S : Type 0} {op : Ops S Figures} {most places : ℕ} (E : Edition op m
                   (let y = length-append (m .figs .cached) (nameOf (p - 4) ∷ []) in let z = h .cache .room in omega arith);
             }
           where
-            both : (x : ℕ) → Mem x (m .figs .cached) ⊎ Mem x (nameOf (p - 4) ∷ []) → byteOf (nameOf (p - 4)) ≡ p - 4 → 0 < usedAt (m .cs) (p - 4) → (6 ≤ x) × (0 < usedAt (m .cs) (byteOf x))
+            both : (x : ℕ) → Mem x (m .figs .cached) ⊎ Mem x (nameOf (p - 4) ∷ []) → byteOf (nameOf (p - 4)) ≡ p - 4 → 0 < usedAt (m .cs) (p - 4)
+                → (6 ≤ x) × (0 < usedAt (m .cs) (byteOf x))
             both x (inl i) a b = h .cache .used x i
             both x (inr i) a b =
                 let q = List·Memᴰ·eq-of-singleton i in
