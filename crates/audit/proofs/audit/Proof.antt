@@ -70,13 +70,6 @@ lists-right-requires c κs =
 
 returns-5 : tie.Need-returns-5
 returns-5 c =
-<<<<<<< HEAD
-    tells (c .before .before .before .before .before .before .before .before .before .before .before .args .prev) (c .before .before .before .before .before .before .before .before .before .before .before .args .next) (c .before .before .before .before .before .before .before .before .before .before .before .args .figures) (now (c .before .before .before .before .before .before .before .before .before .before .before .args .heap)) (omega (arith, c .before .before .before .before .before .before .before .before .before .before .before .good)) (omega (arith, c .before .before .before .before .before .before .before .before .before .before .before .good)) _ (passed-on _ (c .lists-right .ensures)
-    (sound-of _ _ _ _ _ (c .before .before .before .before .before .before .before .before .before .count-chunks .ensures) (not-false _ (c .before .before .before .before .before .before .before .before .if1 .left)) (c .before .before .rings-right .ensures .0 (not-false _ (c .before .if4 .left)))
-    (c .before .before .before .before .before .before .before .figures-right .ensures .0 (not-false _ (c .before .before .before .before .before .before .if2 .left)))
-    (sym (c .before .before .before .before .before .cache-right .ensures) ∙ not-false _ (c .before .before .before .before .if3 .left)))
-    (listed-of _ _ _ _ _ (c .before .before .before .before .before .before .before .before .before .count-chunks .ensures) (not-false _ (c .before .before .before .before .before .before .before .before .if1 .left))))
-=======
     let walk = c .before .before .before .before .before .before .before .before .before .count-chunks .ensures in
     let whole = not-false _ (c .before .before .before .before .before .before .before .before .if1 .left) in
     let figures = c .before .before .before .before .before .before .before .figures-right .ensures .0 (not-false _ (c .before .before .before .before .before .before .if2 .left)) in
@@ -84,7 +77,6 @@ returns-5 c =
     let rings = c .before .before .rings-right .ensures .0 (not-false _ (c .before .if4 .left)) in
     told (c .before .before .before .before .before .before .before .before .before .before .before) _
     (passed-on _ (c .lists-right .ensures) (sound-of _ _ _ _ _ walk whole rings figures cache) (listed-of _ _ _ _ _ walk whole))
->>>>>>> audit
 
 pub audit-spec : {M : Type 1} → statement M
 audit-spec =
