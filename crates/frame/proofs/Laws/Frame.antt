@@ -23,8 +23,8 @@ use Rattle.frame.proofs.Laws.Field.{field-number, field-none}
 
 -- ---- a line read
 
--- a kind above 02 is none
-request-none : (k n : ℕ) → (k ≡ 0 → ⊥) → (k ≡ 1 → ⊥) → (k ≡ 2 → ⊥) → requestOf k n ≡ Bad
+-- a kind that is none of the three asks nothing
+pub request-none : (k n : ℕ) → (k ≡ 0 → ⊥) → (k ≡ 1 → ⊥) → (k ≡ 2 → ⊥) → Bad ≡ requestOf k n
 request-none zero n x y z = absurd (x refl)
 request-none (suc zero) n x y z = absurd (y refl)
 request-none (suc (suc zero)) n x y z = absurd (z refl)
@@ -57,21 +57,13 @@ module _ (l : List ℕ) (h : length l ≡ 10) where
       let f : allDigits (drop 2 l) ≡ false = field-none (drop 2 l) (omega (arith, length-drop 2 l)) (rw tail at e) in
       rw (eq-eqb (length l) 10 h, parts, f, and-false)
 
-  module _ (k n : ℕ) (a : Number k ≡ fieldOf (take 2 l)) (b : Number n ≡ fieldOf (take 8 (drop 2 l))) where
-    -- with both it is what the kind asks
-    line-is : lineOf l ≡ requestOf k n
-    unfolding lineOf
-    line-is =
-        let f = field-number (take 2 l) k a in
-        let g = field-number (drop 2 l) n (rw tail at b) in
-        rw (eq-eqb (length l) 10 h, parts, f .0, g .0, f .1, g .1)
-
-    pub line-good : (j : ℕ) → k ≡ j → requestOf j n ≡ lineOf l
-    line-good j e = sym (line-is ∙ ap (λ (i : ℕ). requestOf i n) e)
-
-    -- and no frame where that is none of the three
-    pub line-bad : (k ≡ 0 → ⊥) → (k ≡ 1 → ⊥) → (k ≡ 2 → ⊥) → Bad ≡ lineOf l
-    line-bad x y z = sym (line-is ∙ request-none k n x y z)
+  -- with both it is what its kind asks
+  pub line-is : (k n : ℕ) → Number k ≡ fieldOf (take 2 l) → Number n ≡ fieldOf (take 8 (drop 2 l)) → requestOf k n ≡ lineOf l
+  unfolding lineOf
+  line-is k n a b =
+      let f = field-number (take 2 l) k a in
+      let g = field-number (drop 2 l) n (rw tail at b) in
+      rw (eq-eqb (length l) 10 h, parts, f .0, g .0, f .1, g .1)
 
 -- ---- which lines are frames
 
@@ -132,6 +124,51 @@ line-of-frame q h =
 pub length-answer : (number value compared : ℕ) → length (answerBytes number value compared) ≡ 19
 unfolding answerBytes
 length-answer number value compared = simp (length-append, length-digits)
+
+module _ (number value compared : ℕ) where
+  -- its bytes before the line feed
+  digits : List ℕ
+  digits = digitsOf 2 number ++ digitsOf 8 value ++ digitsOf 8 compared
+
+  length-front : length (digitsOf 2 number ++ digitsOf 8 value) ≡ 10
+  length-front = simp (length-append, length-digits)
+
+  length-all : length digits ≡ 18
+  unfolding digits
+  length-all = simp (length-append, length-digits)
+
+  -- its first two are the number's digits
+  pub answer-number : take 2 (answerBytes number value compared) ≡ digitsOf 2 number
+  unfolding answerBytes
+  answer-number =
+      rw (append-assoc (digitsOf 2 number ++ digitsOf 8 value) (digitsOf 8 compared) (10 ∷ []), append-assoc (digitsOf 2 number))
+      (take-at (digitsOf 2 number) _ 2 (length-digits 2 number))
+
+  -- the next eight the value's
+  pub answer-value : take 8 (drop 2 (answerBytes number value compared)) ≡ digitsOf 8 value
+  unfolding answerBytes
+  answer-value =
+      rw (append-assoc (digitsOf 2 number ++ digitsOf 8 value) (digitsOf 8 compared) (10 ∷ []), append-assoc (digitsOf 2 number))
+      (rw (drop-at (digitsOf 2 number) (digitsOf 8 value ++ (digitsOf 8 compared ++ (10 ∷ []))) 2 (length-digits 2 number))
+      (take-at (digitsOf 8 value) (digitsOf 8 compared ++ (10 ∷ [])) 8 (length-digits 8 value)))
+
+  -- and the eight after them the count's
+  pub answer-compared : take 8 (drop 10 (answerBytes number value compared)) ≡ digitsOf 8 compared
+  unfolding answerBytes
+  answer-compared =
+      rw (append-assoc (digitsOf 2 number ++ digitsOf 8 value) (digitsOf 8 compared) (10 ∷ []))
+      (rw (drop-at (digitsOf 2 number ++ digitsOf 8 value) (digitsOf 8 compared ++ (10 ∷ [])) 10 length-front)
+      (take-at (digitsOf 8 compared) (10 ∷ []) 8 (length-digits 8 compared)))
+
+  -- those eighteen are digits
+  pub answer-digits : allDigits (take 18 (answerBytes number value compared)) ≡ true
+  unfolding answerBytes digits
+  answer-digits = rw (take-at digits (10 ∷ []) 18 length-all) (simp (all-append, all-digits))
+
+  -- and a line feed ends it
+  pub answer-end : drop 18 (answerBytes number value compared) ≡ 10 ∷ []
+  unfolding answerBytes digits
+  answer-end = drop-at digits (10 ∷ []) 18 length-all
 
 -- lent bytes keep their number
 pub length-answered : (out : List ℕ) (number value compared : ℕ) → length (answered out number value compared) ≡ length out

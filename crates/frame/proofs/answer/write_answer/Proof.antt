@@ -5,9 +5,6 @@ use lib.ListN.{length}
 use Rattle.frame.proofs.Laws.Frame.{length-answered, answered-short, answered-by}
 use Rattle.frame.proofs.answer.write_answer.Statement.{statement}
 use Rattle.frame.proofs.answer.write_answer.Tie as tie
-use Rattle.frame.proofs.answer.write_answer.Reads as reads
-use Rattle.frame.proofs.answer.write_answer.Lts as lts
-use Rattle.frame.proofs.hex.write_field.Reads as write-field-reads
 
 returns : tie.Need-returns
 returns c = answered-short _ _ _ _ (c .if1 .taken)
@@ -52,10 +49,22 @@ slice-write-out : tie.Need-slice-write-out
 slice-write-out c = search needs
 
 same-length : tie.Need-same-length
-same-length c = ap length (answered-by (c .before .before .before .before .before .before .before .before .before .before .before .before .before .before .args .out .now) _ _ _ _ _ _ (c .before .before .before .before .before .before .before .before .before .before .before .before .if1 .left) (c .before .before .before .before .before .before .before .before .before .before .write-field .ensures) (c .before .before .before .before .before .before .write-field2 .ensures) (c .before .before .write-field3 .ensures)) ∙ length-answered _ _ _ _
+same-length c =
+    let third = c .before .before in
+    let second = third .before .before .before .before in
+    let first = second .before .before .before .before in
+    ap length
+    (answered-by (first .before .before .before .before .args .out .now) _ _ _ _ _ _ (first .before .before .if1 .left)
+    (first .write-field .ensures) (second .write-field2 .ensures) (third .write-field3 .ensures))
+    ∙ length-answered _ _ _ _
 
 returns-2 : tie.Need-returns-2
-returns-2 c = answered-by (c .before .before .before .before .before .before .before .before .before .before .before .before .before .before .args .out .now) _ _ _ _ _ _ (c .before .before .before .before .before .before .before .before .before .before .before .before .if1 .left) (c .before .before .before .before .before .before .before .before .before .before .write-field .ensures) (c .before .before .before .before .before .before .write-field2 .ensures) (c .before .before .write-field3 .ensures)
+returns-2 c =
+    let third = c .before .before in
+    let second = third .before .before .before .before in
+    let first = second .before .before .before .before in
+    answered-by (first .before .before .before .before .args .out .now) _ _ _ _ _ _ (first .before .before .if1 .left)
+    (first .write-field .ensures) (second .write-field2 .ensures) (third .write-field3 .ensures)
 
 pub write-answer-spec : {M : Type 1} → statement M
 write-answer-spec =

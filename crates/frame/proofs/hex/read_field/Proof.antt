@@ -10,9 +10,6 @@ use Rattle.frame.specs.Field.{fieldOf}
 use Rattle.frame.proofs.Laws.Field.{fieldFrom, field-is, field-end, field-bad, field-over, field-on}
 use Rattle.frame.proofs.hex.read_field.Statement.{statement}
 use Rattle.frame.proofs.hex.read_field.Tie as tie
-use Rattle.frame.proofs.hex.read_field.Reads as reads
-use Rattle.frame.proofs.hex.read_field.Lts as lts
-use Rattle.frame.proofs.hex.digit_of.Reads as digit-of-reads
 
 abbrev Inv-loop : tie.InvT-loop
 Inv-loop digits number₀ k₀ k-end number k = (fieldOf digits ≡ fieldFrom number (drop k digits)) × (k ≤ length digits) × (number < 2 ^ 32)

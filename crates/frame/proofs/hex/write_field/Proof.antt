@@ -10,9 +10,6 @@ use Rattle.frame.specs.Hex.{digitsOf}
 use Rattle.frame.proofs.Laws.Hex.{write-start, write-on, write-end}
 use Rattle.frame.proofs.hex.write_field.Statement.{statement}
 use Rattle.frame.proofs.hex.write_field.Tie as tie
-use Rattle.frame.proofs.hex.write_field.Reads as reads
-use Rattle.frame.proofs.hex.write_field.Lts as lts
-use Rattle.frame.proofs.hex.byte_of.Reads as byte-of-reads
 
 abbrev Inv-loop : tie.InvT-loop
 Inv-loop out₀ number rest₀ k₀ out rest k =
