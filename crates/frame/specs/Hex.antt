@@ -1,5 +1,5 @@
 -- HEXADECIMAL (document 01, "Trace frames"): digits 0–9 A–F as ASCII has them, upper case only, the most significant first.
-use mathlib.Core.Bool.{Bool, true, false, _&&_, cond}
+use mathlib.Core.Bool.{Bool, true, _&&_, cond}
 use mathlib.Core.List.{List, [], _∷_, _++_}
 use Prim.Native.Nat.{ℕ, zero, suc, _+_, _-_, _*_, _/_, _%_}
 use lib.Dec.{leb, ltb}

@@ -2,9 +2,9 @@
 --     field-is, field-end, field-bad, field-over, field-on     a field is read digit by digit: where it starts and ends, what refuses it, what goes on
 --     field-number, field-none     what the answer tells of the bytes
 --     field-of-digits     a number's digits are read as it, where they hold it
-use mathlib.Core.Path.{_≡_, refl, sym, ap, _∙_}
+use mathlib.Core.Path.{_≡_, refl, _∙_}
 use mathlib.Core.Bool.{Bool, true, false, _&&_, cond, and-false}
-use mathlib.Core.List.{List, [], _∷_}
+use mathlib.Core.List.{List}
 use Prim.Native.Nat.{ℕ, suc, _+_, _*_, _^_, _≤_, _<_}
 use native.Mathlib.Nat.{pow-le-pow-right, lt-of-lt-of-le, mod-eq-of-lt}
 use native.Mathlib.Numerals.{add-one}

@@ -1,21 +1,26 @@
 -- Laws of `specs/Frame.antt`. Assumes nothing.
+--     request-none     a kind that is none of the three asks nothing
+--     line-length, line-kind, line-number, line-is     a line read: what makes it no frame, and what it is where nothing does
+--     length-frame, frame-digits, frame-kind, frame-number     a request's ten digits
+--     line-of-frame, frame-of-line, frame-of-digits     which lines are frames
+--     length-answer, answer-number, answer-value, answer-compared, answer-digits, answer-end     an answer's nineteen bytes
+--     length-answered, answered-short, answered-by     an answer written field by field
 use mathlib.Core.Path.{_≡_, refl, sym, ap, subst, _∙_}
 use mathlib.Core.Bool.{Bool, true, false, _&&_, cond, and-false}
 use mathlib.Core.List.{List, [], _∷_, _++_, append-assoc}
-use Prim.Native.Nat.{ℕ, zero, suc, _+_, _*_, _^_, _≤_, _<_}
-use native.Mathlib.Nat.{mod-eq-of-lt}
+use Prim.Native.Nat.{ℕ, zero, suc, _+_, _^_, _≤_, _<_}
+use native.Mathlib.Nat.{mod-eq-of-lt, lt-trans}
 use native.Mathlib.Omega.{arith}
 use lib.Dec.{leb, lit<, eqb}
 use lib.ListN.{length, getD, take, drop, set, length-take, length-drop, length-append, take-append-drop}
 use lib.Seq.{take-at, drop-at, take-all, drop-drop, drop-cons, set-at, length-take-le}
 use borrow.Rule.Slice.PartMut.{midOf, putMid}
-use borrow.Author.Tests.{lt-ltb, le-ltb, le-leb, lt-leb, eq-eqb, ne-eqb, eqb-true, leb-true}
+use borrow.Author.Tests.{le-leb, lt-leb, eq-eqb, ne-eqb, eqb-true, leb-true}
 use Rattle.frame.specs.declared.hex.Field.the-variants.{Number, NoNumber}
 use Rattle.frame.specs.declared.line.Request.{Request}
 use Rattle.frame.specs.declared.line.Request.the-variants.{Make, HandOut, TakeBack}
-use Rattle.frame.specs.declared.line.Line.{Line}
 use Rattle.frame.specs.declared.line.Line.the-variants.{Good, Bad}
-use Rattle.frame.specs.Hex.{allDigits, valueFrom, valueOf, digitsOf}
+use Rattle.frame.specs.Hex.{allDigits, valueOf, digitsOf}
 use Rattle.frame.specs.Field.{fieldOf}
 use Rattle.frame.specs.Frame.{requestOf, lineOf, kindOf, numberOf, frameOf, answerBytes, answered}
 use Rattle.frame.proofs.Laws.Hex.{both, all-append, length-digits, all-digits, value-of-digits, digits-of-value, value-below}
@@ -36,10 +41,11 @@ unfolding lineOf
 line-length l h = rw (ne-eqb (length l) 10 h)
 
 module _ (l : List ℕ) (h : length l ≡ 10) where
-  -- a line is its two digits of kind and the eight after them
+  -- its kind and its number are all of a line
   parts : allDigits l ≡ (allDigits (take 2 l) && allDigits (drop 2 l))
   parts = ap allDigits (sym (take-append-drop 2 l)) ∙ all-append (take 2 l) (drop 2 l)
 
+  -- and eight bytes after the kind are the rest of it
   tail : take 8 (drop 2 l) ≡ drop 2 l
   tail = take-all 8 (drop 2 l) (omega (arith, length-drop 2 l))
 
@@ -74,16 +80,52 @@ request-is (suc zero) n q h = let e : HandOut n ≡ q = cc in subst (λ (p : Req
 request-is (suc (suc zero)) n q h = let e : TakeBack n ≡ q = cc in subst (λ (p : Request). (2 ≡ kindOf p) × (n ≡ numberOf p)) e (refl, refl)
 request-is (suc (suc (suc k))) n q h = let z : _≡_ {A = ℕ} 0 1 = cc in absurd (omega arith)
 
--- a request's kind shows its request
+-- a kind below 03 asks something
+request-some : (k n : ℕ) → k < 3 → (q : Request) × (requestOf k n ≡ Good q)
+request-some zero n h = (Make n, refl)
+request-some (suc zero) n h = (HandOut n, refl)
+request-some (suc (suc zero)) n h = (TakeBack n, refl)
+request-some (suc (suc (suc k))) n h = absurd (omega arith)
+
+-- a request is what its kind asks of its number
 request-back : (q : Request) → requestOf (kindOf q) (numberOf q) ≡ Good q
 request-back (Make n) = refl
 request-back (HandOut n) = refl
 request-back (TakeBack n) = refl
 
-kind-below : (q : Request) → kindOf q < 16 ^ 2
+-- there are three kinds
+pub kind-below : (q : Request) → kindOf q < 3
 kind-below (Make n) = lit< tt
 kind-below (HandOut n) = lit< tt
 kind-below (TakeBack n) = lit< tt
+
+module _ (q : Request) where
+  -- a request's bytes are ten
+  pub length-frame : length (frameOf q) ≡ 10
+  length-frame = rw (length-append, length-digits 2 (kindOf q), length-digits 8 (numberOf q))
+
+  -- each is a digit
+  pub frame-digits : allDigits (frameOf q) ≡ true
+  frame-digits = rw (all-append, all-digits 2 (kindOf q), all-digits 8 (numberOf q))
+
+  -- two of them say the kind
+  pub frame-kind : valueOf (take 2 (frameOf q)) ≡ kindOf q
+  frame-kind =
+      ap valueOf (take-at (digitsOf 2 (kindOf q)) (digitsOf 8 (numberOf q)) 2 (length-digits 2 (kindOf q)))
+      ∙ value-of-digits 2 (kindOf q)
+      ∙ mod-eq-of-lt (lt-trans (kind-below q) (lit< tt))
+
+  -- and the others the number
+  pub frame-number : numberOf q < 2 ^ 32 → valueOf (drop 2 (frameOf q)) ≡ numberOf q
+  frame-number h =
+      ap valueOf (drop-at (digitsOf 2 (kindOf q)) (digitsOf 8 (numberOf q)) 2 (length-digits 2 (kindOf q)))
+      ∙ value-of-digits 8 (numberOf q)
+      ∙ mod-eq-of-lt h
+
+  -- they are read as that request
+  pub line-of-frame : numberOf q < 2 ^ 32 → lineOf (frameOf q) ≡ Good q
+  unfolding lineOf
+  line-of-frame h = rw (eq-eqb (length (frameOf q)) 10 length-frame, frame-digits, frame-kind, frame-number h) (request-back q)
 
 -- a line that is read as a request is that request's ten digits
 pub frame-of-line : (l : List ℕ) (q : Request) → lineOf l ≡ Good q → (numberOf q < 2 ^ 32) × (l ≡ frameOf q)
@@ -106,17 +148,11 @@ frame-of-line l q = go (eqb (length l) 10) (allDigits l) refl refl
     go true false a b e = let z : _≡_ {A = ℕ} 0 1 = cc in absurd (omega arith)
     go false t a b e = let z : _≡_ {A = ℕ} 0 1 = cc in absurd (omega arith)
 
--- a request's ten digits are read as that request
-pub line-of-frame : (q : Request) → numberOf q < 2 ^ 32 → lineOf (frameOf q) ≡ Good q
+-- ten digits with a kind below 03 are read as a request
+pub frame-of-digits : (l : List ℕ) → length l ≡ 10 → allDigits l ≡ true → valueOf (take 2 l) < 3 → (q : Request) × (lineOf l ≡ Good q)
 unfolding lineOf
-line-of-frame q h =
-    let ten : length (frameOf q) ≡ 10 = rw (length-append, length-digits 2 (kindOf q), length-digits 8 (numberOf q)) in
-    let ds : allDigits (frameOf q) ≡ true = rw (all-append, all-digits 2 (kindOf q), all-digits 8 (numberOf q)) in
-    let front : take 2 (frameOf q) ≡ digitsOf 2 (kindOf q) = take-at (digitsOf 2 (kindOf q)) (digitsOf 8 (numberOf q)) 2 (length-digits 2 (kindOf q)) in
-    let back : drop 2 (frameOf q) ≡ digitsOf 8 (numberOf q) = drop-at (digitsOf 2 (kindOf q)) (digitsOf 8 (numberOf q)) 2 (length-digits 2 (kindOf q)) in
-    let k : valueOf (digitsOf 2 (kindOf q)) ≡ kindOf q = value-of-digits 2 (kindOf q) ∙ mod-eq-of-lt (kind-below q) in
-    let n : valueOf (digitsOf 8 (numberOf q)) ≡ numberOf q = value-of-digits 8 (numberOf q) ∙ mod-eq-of-lt h in
-    rw (eq-eqb (length (frameOf q)) 10 ten, ds, front, back, k, n) (request-back q)
+frame-of-digits l h d k =
+    let r = request-some (valueOf (take 2 l)) (valueOf (drop 2 l)) k in (r .0, rw (eq-eqb (length l) 10 h, d) (r .1))
 
 -- ---- an answer's line
 
@@ -130,6 +166,7 @@ module _ (number value compared : ℕ) where
   digits : List ℕ
   digits = digitsOf 2 number ++ digitsOf 8 value ++ digitsOf 8 compared
 
+  -- their lengths
   length-front : length (digitsOf 2 number ++ digitsOf 8 value) ≡ 10
   length-front = simp (length-append, length-digits)
 

@@ -1,26 +1,29 @@
--- Laws of `specs/Hex.antt`. Assumes nothing.
+-- Laws of `specs/Hex.antt`, over any number of digits. Assumes nothing.
+--     digit-low, digit-high, digit-none     which bytes are digits, and what they say
+--     digit-of-byte, byte-of-digit          a value's digit says the value, and a digit is the digit of what it says
+--     all-append, length-digits, all-digits     a number's w digits are w bytes, each a digit
+--     value-append, value-grows, value-below    digits read on; w of them say a number below 16 ^ w
+--     value-of-digits     a number's last w digits say what is left of it by 16 ^ w
+--     digits-of-value     w digits are the last w digits of the number that they say
+--     write-start, write-on, write-end     digits written from the last to the first
 use mathlib.Core.Path.{_≡_, refl, sym, ap, _∙_}
-use mathlib.Core.Bool.{Bool, true, false, _&&_, and-assoc, false≢true}
+use mathlib.Core.Bool.{Bool, true, false, _&&_, cond, and-assoc, false≢true}
 use mathlib.Core.List.{List, [], _∷_, _++_, append-assoc, append-nil}
 use Prim.Native.Nat.{ℕ, zero, suc, _+_, _-_, _*_, _/_, _%_, _^_, _≤_, _<_}
-use native.Mathlib.Decide.{decLe}
 use native.Mathlib.Nat.{pow-suc, mod-lt, add-zero, zero-add, le-refl}
 use native.Mathlib.Numerals.{add-one}
 use native.Mathlib.Omega.{arith}
 use lib.Arith.{mod-mul}
-use lib.Dec.{ltb, lit<}
+use lib.Dec.{leb, ltb, lit<}
 use lib.ListN.{length, drop, set, length-append, length-set}
 use lib.Seq.{drop-length, drop-cons, getD-set-same, drop-set-lt}
-use borrow.Author.Tests.{lt-ltb, le-ltb, le-leb, lt-leb, ltb-true}
+use borrow.Author.Tests.{lt-ltb, le-ltb, le-leb, lt-leb, ltb-true, ltb-false, leb-true}
 use Rattle.frame.specs.Hex.{digitOf, byteOf, allDigits, valueFrom, valueOf, digitsOf}
 
--- what follows both where m is at most n and where it is above n holds
-by-cases : {C : Type 0} (m n : ℕ) → (m ≤ n → C) → (n < m → C) → C
-by-cases {C} m n f g = go (decLe m n)
-  where
-    go : Dec (m ≤ n) → C
-    go (yes h) = f h
-    go (no h) = g (omega arith)
+-- where "both" holds, each does
+pub both : (s t : Bool) → (s && t) ≡ true → (s ≡ true) × (t ≡ true)
+both true t h = (refl, h)
+both false t h = (h, absurd (false≢true h))
 
 -- ---- one digit
 
@@ -34,36 +37,28 @@ pub digit-high : (b : ℕ) → 65 ≤ b → b ≤ 70 → digitOf b ≡ b - 55
 unfolding digitOf
 digit-high b h l = simp (le-leb 48 b (omega arith), lt-leb b 57 (omega arith), le-leb 65 b h, le-leb b 70 l)
 
--- any other byte is no digit
-pub digit-under : (b : ℕ) → b < 48 → digitOf b ≡ 16
-unfolding digitOf
-digit-under b h = simp (lt-leb 48 b h, lt-leb 65 b (omega arith))
-
-pub digit-between : (b : ℕ) → 57 < b → b < 65 → digitOf b ≡ 16
-unfolding digitOf
-digit-between b h l = simp (le-leb 48 b (omega arith), lt-leb b 57 h, lt-leb 65 b l)
-
-pub digit-over : (b : ℕ) → 70 < b → digitOf b ≡ 16
-unfolding digitOf
-digit-over b h = simp (le-leb 48 b (omega arith), lt-leb b 57 (omega arith), le-leb 65 b (omega arith), lt-leb b 70 h)
-
--- what holds of the bytes 0–9, of A–F and of those that are no digit holds of every byte
+-- what holds of 0–9, of A–F and of no digit holds of every byte
 by-digit : (C : ℕ → Type 0) (b : ℕ) → (48 ≤ b → b ≤ 57 → C (b - 48)) → (65 ≤ b → b ≤ 70 → C (b - 55)) → C 16 → C (digitOf b)
-by-digit C b f g z =
-    by-cases b 57
-    (λ l. by-cases 48 b (λ h. rw (digit-low b h l) (f h l)) (λ h. rw (digit-under b h) z))
-    (λ l.
-    by-cases 65 b
-    (λ h. by-cases b 70 (λ k. rw (digit-high b h k) (g h k)) (λ k. rw (digit-over b k) z))
-    (λ h. rw (digit-between b l h) z))
+unfolding digitOf
+by-digit C b f g z = go (leb 48 b && leb b 57) (leb 65 b && leb b 70) refl refl
+  where
+    go : (s t : Bool) → (leb 48 b && leb b 57) ≡ s → (leb 65 b && leb b 70) ≡ t → C (cond s (b - 48) (cond t (b - 55) 16))
+    go true t e d = f (leb-true 48 b (both (leb 48 b) (leb b 57) e .0)) (leb-true b 57 (both (leb 48 b) (leb b 57) e .1))
+    go false true e d = g (leb-true 65 b (both (leb 65 b) (leb b 70) d .0)) (leb-true b 70 (both (leb 65 b) (leb b 70) d .1))
+    go false false e d = z
+
+-- a byte in neither range is none
+pub digit-none : (b : ℕ) → (48 ≤ b → 57 < b) → (65 ≤ b → 70 < b) → digitOf b ≡ 16
+digit-none b p q = by-digit (λ d. d ≡ 16) b (λ h l. absurd (omega (arith, p h))) (λ h l. absurd (omega (arith, q h))) refl
 
 -- the digit of a value says that value
 pub digit-of-byte : (d : ℕ) → d < 16 → digitOf (byteOf d) ≡ d
 unfolding byteOf
-digit-of-byte d h =
-    by-cases 10 d
-    (λ l. rw (le-ltb d 10 l) (digit-high (d + 55) (omega arith) (omega arith) ∙ omega arith))
-    (λ l. rw (lt-ltb d 10 l) (digit-low (d + 48) (omega arith) (omega arith) ∙ omega arith))
+digit-of-byte d h = go (ltb d 10) refl
+  where
+    go : (t : Bool) → ltb d 10 ≡ t → digitOf (cond t (d + 48) (d + 55)) ≡ d
+    go true e = let l : d < 10 = ltb-true d 10 e in digit-low (d + 48) (omega arith) (omega arith) ∙ omega arith
+    go false e = let l : 10 ≤ d = ltb-false d 10 e in digit-high (d + 55) (omega arith) (omega arith) ∙ omega arith
 
 -- and a byte that is a digit is the digit of its value
 pub byte-of-digit : (b : ℕ) → digitOf b < 16 → byteOf (digitOf b) ≡ b
@@ -74,27 +69,22 @@ byte-of-digit b =
     (λ h l k. rw (le-ltb (b - 55) 10 (omega arith)) (omega arith))
     (λ k. absurd (omega arith))
 
--- ---- whether every byte is a digit
+-- ---- bytes that are all digits
 
--- both hold where "both" holds
-pub both : (s t : Bool) → (s && t) ≡ true → (s ≡ true) × (t ≡ true)
-both true t h = (refl, h)
-both false t h = (h, absurd (false≢true h))
-
--- of two runs of bytes, both
+-- of two runs, each
 pub all-append : (xs bs : List ℕ) → allDigits (xs ++ bs) ≡ (allDigits xs && allDigits bs)
 all-append [] bs = refl
 all-append (a ∷ xs) bs = rw (all-append xs bs) (sym (and-assoc (ltb (digitOf a) 16) (allDigits xs) (allDigits bs)))
 
 -- ---- the digits of a number
 
--- so many
+-- they are so many
 pub length-digits : (w n : ℕ) → length (digitsOf w n) ≡ w
 unfolding digitsOf
 length-digits zero n = refl
 length-digits (suc w) n = rw (length-append, length-digits w (n / 16)) (add-one w)
 
--- each of them a digit
+-- and each is a digit
 pub all-digits : (w n : ℕ) → allDigits (digitsOf w n) ≡ true
 unfolding digitsOf
 all-digits zero n = refl

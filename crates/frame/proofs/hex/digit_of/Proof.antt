@@ -2,7 +2,7 @@
 use mathlib.Core.Path.{sym}
 use native.Mathlib.Omega.{arith}
 use borrow.Author.Needs.{needs}
-use Rattle.frame.proofs.Laws.Hex.{digit-low, digit-high, digit-under, digit-between, digit-over}
+use Rattle.frame.proofs.Laws.Hex.{digit-low, digit-high, digit-none}
 use Rattle.frame.proofs.hex.digit_of.Statement.{statement}
 use Rattle.frame.proofs.hex.digit_of.Tie as tie
 
@@ -22,13 +22,13 @@ returns-2 : tie.Need-returns-2
 returns-2 c = sym (digit-high _ (omega arith) (omega arith))
 
 returns-3 : tie.Need-returns-3
-returns-3 c = sym (digit-under _ (omega arith))
+returns-3 c = sym (digit-none _ (omega arith) (omega arith))
 
 returns-4 : tie.Need-returns-4
-returns-4 c = sym (digit-between _ (omega arith) (omega arith))
+returns-4 c = sym (digit-none _ (omega arith) (omega arith))
 
 returns-5 : tie.Need-returns-5
-returns-5 c = sym (digit-over _ (omega arith))
+returns-5 c = sym (digit-none _ (omega arith) (omega arith))
 
 pub digit-of-spec : {M : Type 1} → statement M
 digit-of-spec =

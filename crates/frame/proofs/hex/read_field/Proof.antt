@@ -1,6 +1,6 @@
 -- `frame::hex::read_field` meets its contract. Invariant: the field is what its bytes from k on say after the number read so far, which fits 32 bits.
 -- A digit keeps it; a byte that is none, and a number with no room for the digit, refuse the field. Measure: the bytes that are left.
-use mathlib.Core.Path.{_≡_, sym, ap, _∙_}
+use mathlib.Core.Path.{_≡_, sym, _∙_}
 use Prim.Native.Nat.{_-_, _^_, _≤_, _<_}
 use native.Mathlib.Omega.{arith}
 use lib.Dec.{lit<}

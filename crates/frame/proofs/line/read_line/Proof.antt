@@ -1,13 +1,14 @@
 -- `frame::line::read_line` meets its contract: of ten bytes two are read as the kind and eight as the number. Where one of these fails, the line is no
 -- frame.
 use mathlib.Core.Path.{sym, _∙_}
+use native.Mathlib.Omega.{arith}
 use borrow.Author.Needs.{needs}
 use Rattle.frame.proofs.Laws.Frame.{line-length, line-kind, line-number, line-is}
 use Rattle.frame.proofs.line.read_line.Statement.{statement}
 use Rattle.frame.proofs.line.read_line.Tie as tie
 
 returns : tie.Need-returns
-returns c = line-length _ (c .if1 .taken)
+returns c = line-length _ (omega arith)
 
 sub-read-field : tie.Need-sub-read-field
 sub-read-field c = search needs
@@ -28,7 +29,7 @@ enum-told : tie.Need-enum-told
 enum-told c = search needs
 
 returns-2 : tie.Need-returns-2
-returns-2 c = line-kind _ (c .before .before .before .before .if1 .left) (sym (c .enum-told .given .1) ∙ c .before .before .read-field .ensures)
+returns-2 c = line-kind _ (omega arith) (sym (c .enum-told .given .1) ∙ c .before .before .read-field .ensures)
 
 sub-read-field-2 : tie.Need-sub-read-field-2
 sub-read-field-2 c = search needs
@@ -49,21 +50,19 @@ enum-told-2 : tie.Need-enum-told-2
 enum-told-2 c = search needs
 
 returns-3 : tie.Need-returns-3
-returns-3 c =
-    let first = c .before .before .before .before .before .before .before in
-    line-number _ (first .before .before .if1 .left) (sym (c .enum-told2 .given .1) ∙ c .before .before .read-field2 .ensures)
+returns-3 c = line-number _ (omega arith) (sym (c .enum-told2 .given .1) ∙ c .before .before .read-field2 .ensures)
 
 request-of-requires : tie.Need-request-of-requires
 request-of-requires c κs = search needs
 
 returns-4 : tie.Need-returns-4
 returns-4 c =
-    let second = c .before .before .before .before in
+    let second = c .before .before in
     let first = second .before .before .before .before .before in
     c .request-of .ensures
-    ∙ line-is _ (first .before .before .if1 .left) _ _
-    (sym (c .before .before .before .before .before .before .before .first .given .1) ∙ first .read-field .ensures)
-    (sym (c .before .before .second .given .1) ∙ second .read-field2 .ensures)
+    ∙ line-is _ (omega arith) _ _
+    (sym (first .first .given .1) ∙ first .before .before .read-field .ensures)
+    (sym (second .second .given .1) ∙ second .before .before .read-field2 .ensures)
 
 pub read-line-spec : {M : Type 1} → statement M
 read-line-spec =
