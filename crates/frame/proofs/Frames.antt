@@ -81,20 +81,20 @@ answer-read-back number value compared n v c = (
 )
 
 -- so two answers with the same bytes are the same
-module _ (a b c : ℕ) (an : a < 2 ^ 8) (bn : b < 2 ^ 32) (cn : c < 2 ^ 32) (x y z : ℕ) (xn : x < 2 ^ 8) (yn : y < 2 ^ 32) (zn : z < 2 ^ 32) where
-  pub answers-told-apart : answerBytes a b c ≡ answerBytes x y z → (a ≡ x) × (b ≡ y) × (c ≡ z)
-  answers-told-apart e =
-      let r = answer-read-back a b c an bn cn in
-      let s = answer-read-back x y z xn yn zn in (
-        same (sym (r .0) ∙ ap (λ (l : List ℕ). fieldOf (take 2 l)) e ∙ s .0),
-        same (sym (r .1) ∙ ap (λ (l : List ℕ). fieldOf (take 8 (drop 2 l))) e ∙ s .1),
-        same (sym (r .2) ∙ ap (λ (l : List ℕ). fieldOf (take 8 (drop 10 l))) e ∙ s .2),
-      )
-    where
-      same : {m n : ℕ} → _≡_ {A = Field} (Number m) (Number n) → m ≡ n
-      same h = cc
+pub answers-told-apart : (a b c x y z : ℕ) → a < 2 ^ 8 → b < 2 ^ 32 → c < 2 ^ 32 → x < 2 ^ 8 → y < 2 ^ 32 → z < 2 ^ 32
+    → answerBytes a b c ≡ answerBytes x y z → (a ≡ x) × (b ≡ y) × (c ≡ z)
+answers-told-apart a b c x y z an bn cn xn yn zn e =
+    let r = answer-read-back a b c an bn cn in
+    let s = answer-read-back x y z xn yn zn in (
+      same (sym (r .0) ∙ ap (λ (l : List ℕ). fieldOf (take 2 l)) e ∙ s .0),
+      same (sym (r .1) ∙ ap (λ (l : List ℕ). fieldOf (take 8 (drop 2 l))) e ∙ s .1),
+      same (sym (r .2) ∙ ap (λ (l : List ℕ). fieldOf (take 8 (drop 10 l))) e ∙ s .2),
+    )
+  where
+    same : {m n : ℕ} → _≡_ {A = Field} (Number m) (Number n) → m ≡ n
+    same h = cc
 
 -- an answer is eighteen digits and a line feed
-pub answer-one-line : (number value compared : ℕ) →
-    (allDigits (take 18 (answerBytes number value compared)) ≡ true) × (drop 18 (answerBytes number value compared) ≡ 10 ∷ [])
+pub answer-one-line : (number value compared : ℕ)
+    → (allDigits (take 18 (answerBytes number value compared)) ≡ true) × (drop 18 (answerBytes number value compared) ≡ 10 ∷ [])
 answer-one-line number value compared = (answer-digits number value compared, answer-end number value compared)

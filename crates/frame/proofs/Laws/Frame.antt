@@ -4,7 +4,7 @@
 --     length-frame, frame-digits, frame-kind, frame-number     a request's ten digits
 --     line-of-frame, frame-of-line, frame-of-digits     which lines are frames
 --     length-answer, answer-number, answer-value, answer-compared, answer-digits, answer-end     an answer's nineteen bytes
---     length-answered, answered-short, answered-by     an answer written field by field
+--     length-answered, answered-room, answered-short, answered-by     an answer written over lent bytes, field by field
 use mathlib.Core.Path.{_≡_, refl, sym, ap, subst, _∙_}
 use mathlib.Core.Bool.{Bool, true, false, _&&_, cond, and-false}
 use mathlib.Core.List.{List, [], _∷_, _++_, append-assoc}
@@ -216,6 +216,12 @@ length-answered out number value compared = go (leb 19 (length out)) refl
     go true e = rw (length-append, length-answer number value compared, length-drop) (omega (arith, leb-true 19 (length out) e))
     go false e = refl
 
+-- where there is room, the line stands before the rest of them
+pub answered-room : (out : List ℕ) (number value compared : ℕ) → 19 ≤ length out
+    → answered out number value compared ≡ answerBytes number value compared ++ drop 19 out
+unfolding answered
+answered-room out number value compared h = rw (le-leb 19 (length out) h)
+
 -- too short for a line, they stay
 pub answered-short : (out : List ℕ) (number value compared : ℕ) → length out < 19 → out ≡ answered out number value compared
 unfolding answered
@@ -234,7 +240,7 @@ pub answered-by : (out x y z : List ℕ) (number value compared : ℕ) → 19 �
     → y ≡ digitsOf (length (midOf 2 8 (putMid 0 2 out x))) value
     → z ≡ digitsOf (length (midOf 10 8 (putMid 2 8 (putMid 0 2 out x) y))) compared
     → set (putMid 10 8 (putMid 2 8 (putMid 0 2 out x) y) z) 18 10 ≡ answered out number value compared
-unfolding answered answerBytes
+unfolding answerBytes
 answered-by out x y z number value compared h e f g =
     let d : List ℕ = digitsOf 2 number in
     let one = put-behind out [] out x 0 2 number refl (omega arith) refl e in
@@ -243,4 +249,4 @@ answered-by out x y z number value compared h e f g =
     let three = put-behind out (d ++ digitsOf 8 value) (putMid 2 8 (putMid 0 2 out x) y) z 10 8 compared l (omega arith) two g in
     let p : List ℕ = d ++ digitsOf 8 value ++ digitsOf 8 compared in
     let m : length p ≡ 18 = simp (length-append, length-digits) in
-    rw (three, drop-cons out 18 0 h, set-at p (getD out 18 0) (drop 19 out) 10 18 m, le-leb 19 (length out) h, append-assoc p (10 ∷ []) (drop 19 out))
+    rw (answered-room out number value compared h, three, drop-cons out 18 0 h, set-at p (getD out 18 0) (drop 19 out) 10 18 m, append-assoc p (10 ∷ []) (drop 19 out))
