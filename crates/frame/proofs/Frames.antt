@@ -21,23 +21,12 @@ use Rattle.frame.specs.declared.line.Request.{Request}
 use Rattle.frame.specs.declared.line.Line.the-variants.{Good}
 use Rattle.frame.specs.Hex.{allDigits, valueOf, digitsOf}
 use Rattle.frame.specs.Field.{fieldOf}
-use Rattle.frame.specs.Frame.{lineOf, numberOf, frameOf, answerBytes}
+use Rattle.frame.specs.Line.{lineOf, numberOf, frameOf}
+use Rattle.frame.specs.Answer.{answerBytes}
 use Rattle.frame.proofs.Laws.Hex.{digits-of-value, value-below}
 use Rattle.frame.proofs.Laws.Field.{field-number, field-of-digits}
-use Rattle.frame.proofs.Laws.Frame.{
-  kind-below,
-  length-frame,
-  frame-digits,
-  frame-kind,
-  line-of-frame,
-  frame-of-line,
-  frame-of-digits,
-  answer-number,
-  answer-value,
-  answer-compared,
-  answer-digits,
-  answer-end,
-}
+use Rattle.frame.proofs.Laws.Line.{kind-below, length-frame, frame-digits, frame-kind, line-of-frame, frame-of-line, frame-of-digits}
+use Rattle.frame.proofs.Laws.Answer.{answer-number, answer-value, answer-compared, answer-digits, answer-end}
 
 -- a field is read as n exactly if n has 32 bits, the field has room for it, and the field is n's digits
 pub field-exactly : (bs : List ℕ) (n : ℕ) → (fieldOf bs ≡ Number n) ↔ ((n < 2 ^ 32) × (n < 16 ^ length bs) × (bs ≡ digitsOf (length bs) n))

@@ -9,7 +9,8 @@ use Rattle.frame.specs.declared.line.Request.the-variants.{Make, HandOut
 use Rattle.frame.specs.declared.line.Line.{Line}
 use Rattle.frame.specs.declared.line.Line.the-variants.{Good, Bad}
 use Rattle.frame.specs.Hex.{digitOf, byteOf, digitsOf}
-use Rattle.frame.specs.Frame.{lineOf, answerBytes}
+use Rattle.frame.specs.Line.{lineOf}
+use Rattle.frame.specs.Answer.{answerBytes}
 
 -- the bytes of a text
 abbrev bytes : String → List ℕ

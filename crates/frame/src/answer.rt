@@ -1,6 +1,7 @@
 // A line of output: two digits of answer number, eight of value, eight of compared count, and a line feed.
+// The contract cites specs/Answer.antt.
 ghost use mathlib.Core.Path.{_≡_};
-ghost use Rattle.frame.specs.Frame.{answered};
+ghost use Rattle.frame.specs.Answer.{answered};
 use super::hex::write_field;
 
 // Writes an answer's 19 bytes at the start of `out`. A part that is too short for them stays as it is.

@@ -1,6 +1,6 @@
 // Hexadecimal: one digit, and a field of as many digits as are lent.
 //
-// Digits are 0–9 A–F, upper case both ways, the most significant first. Contracts cite specs/Hex.antt.
+// Digits are 0–9 A–F, upper case both ways, the most significant first. Contracts cite specs/Hex.antt and specs/Field.antt.
 ghost use mathlib.Core.Path.{_≡_};
 ghost use Prim.Native.Nat.{_<_};
 ghost use lib.ListN.{length};

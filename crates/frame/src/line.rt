@@ -1,6 +1,6 @@
-// A line of input: ten digits, two of kind and eight of number, or no frame.
+// A line of input: ten digits, two of kind and eight of number, or no frame. Contracts cite specs/Line.antt.
 ghost use mathlib.Core.Path.{_≡_};
-ghost use Rattle.frame.specs.Frame.{requestOf, lineOf};
+ghost use Rattle.frame.specs.Line.{requestOf, lineOf};
 use super::hex::Field;
 use super::hex::read_field;
 

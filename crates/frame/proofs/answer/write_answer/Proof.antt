@@ -2,7 +2,7 @@
 use borrow.Author.Needs.{needs}
 use mathlib.Core.Path.{ap, _∙_}
 use lib.ListN.{length}
-use Rattle.frame.proofs.Laws.Frame.{length-answered, answered-short, answered-by}
+use Rattle.frame.proofs.Laws.Answer.{length-answered, answered-short, answered-by}
 use Rattle.frame.proofs.answer.write_answer.Statement.{statement}
 use Rattle.frame.proofs.answer.write_answer.Tie as tie
 

@@ -3,7 +3,7 @@
 use mathlib.Core.Path.{sym, _∙_}
 use native.Mathlib.Omega.{arith}
 use borrow.Author.Needs.{needs}
-use Rattle.frame.proofs.Laws.Frame.{line-length, line-kind, line-number, line-is}
+use Rattle.frame.proofs.Laws.Line.{line-length, line-kind, line-number, line-is}
 use Rattle.frame.proofs.line.read_line.Statement.{statement}
 use Rattle.frame.proofs.line.read_line.Tie as tie
 

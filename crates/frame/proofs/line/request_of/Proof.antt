@@ -1,5 +1,5 @@
 -- `frame::line::request_of` meets its contract, arm by arm.
-use Rattle.frame.proofs.Laws.Frame.{request-none}
+use Rattle.frame.proofs.Laws.Line.{request-none}
 use Rattle.frame.proofs.line.request_of.Statement.{statement}
 use Rattle.frame.proofs.line.request_of.Tie as tie
 

@@ -1,28 +1,25 @@
--- Laws of `specs/Frame.antt`. Assumes nothing.
+-- Laws of `specs/Line.antt`. Assumes nothing.
 --     request-none     a kind that is none of the three asks nothing
 --     line-length, line-kind, line-number, line-is     a line read: what makes it no frame, and what it is where nothing does
 --     length-frame, frame-digits, frame-kind, frame-number     a request's ten digits
 --     line-of-frame, frame-of-line, frame-of-digits     which lines are frames
---     length-answer, answer-number, answer-value, answer-compared, answer-digits, answer-end     an answer's nineteen bytes
---     length-answered, answered-room, answered-short, answered-by     an answer written over lent bytes, field by field
 use mathlib.Core.Path.{_≡_, refl, sym, ap, subst, _∙_}
 use mathlib.Core.Bool.{Bool, true, false, _&&_, cond, and-false}
-use mathlib.Core.List.{List, [], _∷_, _++_, append-assoc}
-use Prim.Native.Nat.{ℕ, zero, suc, _+_, _^_, _≤_, _<_}
+use mathlib.Core.List.{List}
+use Prim.Native.Nat.{ℕ, zero, suc, _^_, _<_}
 use native.Mathlib.Nat.{mod-eq-of-lt, lt-trans}
 use native.Mathlib.Omega.{arith}
-use lib.Dec.{leb, lit<, eqb}
-use lib.ListN.{length, getD, take, drop, set, length-take, length-drop, length-append, take-append-drop}
-use lib.Seq.{take-at, drop-at, take-all, drop-drop, drop-cons, set-at, length-take-le}
-use borrow.Rule.Slice.PartMut.{midOf, putMid}
-use borrow.Author.Tests.{le-leb, lt-leb, eq-eqb, ne-eqb, eqb-true, leb-true}
+use lib.Dec.{lit<, eqb}
+use lib.ListN.{length, take, drop, length-take, length-drop, length-append, take-append-drop}
+use lib.Seq.{take-at, drop-at, take-all}
+use borrow.Author.Tests.{eq-eqb, ne-eqb, eqb-true}
 use Rattle.frame.specs.declared.hex.Field.the-variants.{Number, NoNumber}
 use Rattle.frame.specs.declared.line.Request.{Request}
 use Rattle.frame.specs.declared.line.Request.the-variants.{Make, HandOut, TakeBack}
 use Rattle.frame.specs.declared.line.Line.the-variants.{Good, Bad}
 use Rattle.frame.specs.Hex.{allDigits, valueOf, digitsOf}
 use Rattle.frame.specs.Field.{fieldOf}
-use Rattle.frame.specs.Frame.{requestOf, lineOf, kindOf, numberOf, frameOf, answerBytes, answered}
+use Rattle.frame.specs.Line.{requestOf, lineOf, kindOf, numberOf, frameOf}
 use Rattle.frame.proofs.Laws.Hex.{both, all-append, length-digits, all-digits, value-of-digits, digits-of-value, value-below}
 use Rattle.frame.proofs.Laws.Field.{field-number, field-none}
 
@@ -153,100 +150,3 @@ pub frame-of-digits : (l : List ℕ) → length l ≡ 10 → allDigits l ≡ tru
 unfolding lineOf
 frame-of-digits l h d k =
     let r = request-some (valueOf (take 2 l)) (valueOf (drop 2 l)) k in (r .0, rw (eq-eqb (length l) 10 h, d) (r .1))
-
--- ---- an answer's line
-
--- nineteen bytes
-pub length-answer : (number value compared : ℕ) → length (answerBytes number value compared) ≡ 19
-unfolding answerBytes
-length-answer number value compared = simp (length-append, length-digits)
-
-module _ (number value compared : ℕ) where
-  -- its bytes before the line feed
-  digits : List ℕ
-  digits = digitsOf 2 number ++ digitsOf 8 value ++ digitsOf 8 compared
-
-  -- their lengths
-  length-front : length (digitsOf 2 number ++ digitsOf 8 value) ≡ 10
-  length-front = simp (length-append, length-digits)
-
-  length-all : length digits ≡ 18
-  unfolding digits
-  length-all = simp (length-append, length-digits)
-
-  -- its first two are the number's digits
-  pub answer-number : take 2 (answerBytes number value compared) ≡ digitsOf 2 number
-  unfolding answerBytes
-  answer-number =
-      rw (append-assoc (digitsOf 2 number ++ digitsOf 8 value) (digitsOf 8 compared) (10 ∷ []), append-assoc (digitsOf 2 number))
-      (take-at (digitsOf 2 number) _ 2 (length-digits 2 number))
-
-  -- the next eight the value's
-  pub answer-value : take 8 (drop 2 (answerBytes number value compared)) ≡ digitsOf 8 value
-  unfolding answerBytes
-  answer-value =
-      rw (append-assoc (digitsOf 2 number ++ digitsOf 8 value) (digitsOf 8 compared) (10 ∷ []), append-assoc (digitsOf 2 number))
-      (rw (drop-at (digitsOf 2 number) (digitsOf 8 value ++ (digitsOf 8 compared ++ (10 ∷ []))) 2 (length-digits 2 number))
-      (take-at (digitsOf 8 value) (digitsOf 8 compared ++ (10 ∷ [])) 8 (length-digits 8 value)))
-
-  -- and the eight after them the count's
-  pub answer-compared : take 8 (drop 10 (answerBytes number value compared)) ≡ digitsOf 8 compared
-  unfolding answerBytes
-  answer-compared =
-      rw (append-assoc (digitsOf 2 number ++ digitsOf 8 value) (digitsOf 8 compared) (10 ∷ []))
-      (rw (drop-at (digitsOf 2 number ++ digitsOf 8 value) (digitsOf 8 compared ++ (10 ∷ [])) 10 length-front)
-      (take-at (digitsOf 8 compared) (10 ∷ []) 8 (length-digits 8 compared)))
-
-  -- those eighteen are digits
-  pub answer-digits : allDigits (take 18 (answerBytes number value compared)) ≡ true
-  unfolding answerBytes digits
-  answer-digits = rw (take-at digits (10 ∷ []) 18 length-all) (simp (all-append, all-digits))
-
-  -- and a line feed ends it
-  pub answer-end : drop 18 (answerBytes number value compared) ≡ 10 ∷ []
-  unfolding answerBytes digits
-  answer-end = drop-at digits (10 ∷ []) 18 length-all
-
--- lent bytes keep their number
-pub length-answered : (out : List ℕ) (number value compared : ℕ) → length (answered out number value compared) ≡ length out
-unfolding answered
-length-answered out number value compared = go (leb 19 (length out)) refl
-  where
-    go : (t : Bool) → leb 19 (length out) ≡ t → length (cond t (answerBytes number value compared ++ drop 19 out) out) ≡ length out
-    go true e = rw (length-append, length-answer number value compared, length-drop) (omega (arith, leb-true 19 (length out) e))
-    go false e = refl
-
--- where there is room, the line stands before the rest of them
-pub answered-room : (out : List ℕ) (number value compared : ℕ) → 19 ≤ length out
-    → answered out number value compared ≡ answerBytes number value compared ++ drop 19 out
-unfolding answered
-answered-room out number value compared h = rw (le-leb 19 (length out) h)
-
--- too short for a line, they stay
-pub answered-short : (out : List ℕ) (number value compared : ℕ) → length out < 19 → out ≡ answered out number value compared
-unfolding answered
-answered-short out number value compared h = rw (lt-leb 19 (length out) h)
-
--- a field put behind the bytes p that stand at the start
-put-behind : (out p xs x : List ℕ) (a w n : ℕ) → length p ≡ a → a + w ≤ length out → xs ≡ p ++ drop a out
-    → x ≡ digitsOf (length (midOf a w xs)) n → putMid a w xs x ≡ p ++ digitsOf w n ++ drop (a + w) out
-put-behind out p xs x a w n l r e f =
-    let m : length (take w (drop a out)) ≡ w = length-take-le w (drop a out) (omega (arith, length-drop a out)) in
-    rw (f, e, take-at p (drop a out) a l, drop-at p (drop a out) a l, m, drop-drop w a out, append-assoc)
-
--- three fields and a line feed, written one after the other
-pub answered-by : (out x y z : List ℕ) (number value compared : ℕ) → 19 ≤ length out
-    → x ≡ digitsOf (length (midOf 0 2 out)) number
-    → y ≡ digitsOf (length (midOf 2 8 (putMid 0 2 out x))) value
-    → z ≡ digitsOf (length (midOf 10 8 (putMid 2 8 (putMid 0 2 out x) y))) compared
-    → set (putMid 10 8 (putMid 2 8 (putMid 0 2 out x) y) z) 18 10 ≡ answered out number value compared
-unfolding answerBytes
-answered-by out x y z number value compared h e f g =
-    let d : List ℕ = digitsOf 2 number in
-    let one = put-behind out [] out x 0 2 number refl (omega arith) refl e in
-    let two = put-behind out d (putMid 0 2 out x) y 2 8 value (length-digits 2 number) (omega arith) one f in
-    let l : length (d ++ digitsOf 8 value) ≡ 10 = simp (length-append, length-digits) in
-    let three = put-behind out (d ++ digitsOf 8 value) (putMid 2 8 (putMid 0 2 out x) y) z 10 8 compared l (omega arith) two g in
-    let p : List ℕ = d ++ digitsOf 8 value ++ digitsOf 8 compared in
-    let m : length p ≡ 18 = simp (length-append, length-digits) in
-    rw (answered-room out number value compared h, three, drop-cons out 18 0 h, set-at p (getD out 18 0) (drop 19 out) 10 18 m, append-assoc p (10 ∷ []) (drop 19 out))

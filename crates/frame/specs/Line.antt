@@ -1,8 +1,8 @@
--- TRACE FRAMES (document 01, under that heading): which lines are frames, what they ask, and the bytes of an answer.
+-- LINES OF INPUT (document 01, "Trace frames"): which lines are frames, what they ask, and a request's own frame.
 use mathlib.Core.Bool.{_&&_, cond}
-use mathlib.Core.List.{List, [], _∷_, _++_}
+use mathlib.Core.List.{List, _++_}
 use Prim.Native.Nat.{ℕ, zero, suc}
-use lib.Dec.{leb, eqb}
+use lib.Dec.{eqb}
 use lib.ListN.{length, take, drop}
 use Rattle.frame.specs.declared.line.Request.{Request}
 use Rattle.frame.specs.declared.line.Request.the-variants.{Make, HandOut, TakeBack}
@@ -36,11 +36,3 @@ numberOf (TakeBack n) = n
 -- a request's ten digits
 abbrev pub frameOf : Request → List ℕ
 frameOf q = digitsOf 2 (kindOf q) ++ digitsOf 8 (numberOf q)
-
--- an answer's line: two digits answer, eight value, eight compared, and a line feed
-unfoldable pub answerBytes : ℕ → ℕ → ℕ → List ℕ
-answerBytes number value compared = digitsOf 2 number ++ digitsOf 8 value ++ digitsOf 8 compared ++ (10 ∷ [])
-
--- lent bytes with an answer's line written at their start, if there is room for it
-unfoldable pub answered : List ℕ → ℕ → ℕ → ℕ → List ℕ
-answered out number value compared = cond (leb 19 (length out)) (answerBytes number value compared ++ drop 19 out) out
