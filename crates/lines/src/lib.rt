@@ -2,7 +2,7 @@
 //
 //     input    the next line: of a long line only the first bytes are kept, as many as there is room for
 //     output   a buffer, which is written out when it is full
-//     put      an answer line, a number and a line feed into that buffer
+//     put      an answer line, a number, a byte into that buffer
 //
 // The buffers are the caller's. Nothing is proved here but that every call is safe and ends, given that each read and write returns: no
 // contract can say which bytes the system gives.
@@ -16,5 +16,5 @@ pub use input::read_kept;
 pub use output::Output;
 pub use output::flush;
 pub use put::put_answer;
-pub use put::put_feed;
+pub use put::put_byte;
 pub use put::put_number;

@@ -1,4 +1,4 @@
-// What is put into the output buffer: an answer line, a number, a line feed.
+// What is put into the output buffer: an answer line, a number, a byte.
 ghost use Prim.Native.Nat.{_≤_};
 ghost use lib.ListN.{length};
 use super::output::Output;
@@ -19,21 +19,21 @@ pub fn put_answer(output: Output, out: &mut [u8], number: u8, value: u32, compar
 pub fn put_number(output: Output, out: &mut [u8], number: u32) -> Output
     requires { ⌜ 19 ≤ length (now out) ⌝ }
 {
-    let mut o = room(output, out, 9);
+    let spaced = put_byte(output, out, 32);
+    let mut o = room(spaced, out, 8);
     let used = o.used;
-    out[used] = 32;
-    frame::write_field(&mut out[used + 1..used + 9], number);
-    o.used = used + 9;
+    frame::write_field(&mut out[used..used + 8], number);
+    o.used = used + 8;
     o
 }
 
-// Puts a line feed.
-pub fn put_feed(output: Output, out: &mut [u8]) -> Output
+// Puts one byte.
+pub fn put_byte(output: Output, out: &mut [u8], byte: u8) -> Output
     requires { ⌜ 19 ≤ length (now out) ⌝ }
 {
     let mut o = room(output, out, 1);
     let used = o.used;
-    out[used] = 10;
+    out[used] = byte;
     o.used = used + 1;
     o
 }

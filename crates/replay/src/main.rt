@@ -10,16 +10,6 @@ use lines::Input;
 use lines::Output;
 use words::Link;
 
-// What goes on from line to line.
-pub struct Run {
-    // the record of the heap in use
-    pub rec: Record,
-    // where reading stands
-    pub input: Input,
-    // where writing stands
-    pub output: Output,
-}
-
 fn main() {
     let mut memory = [0u32; 16383];
     let mut out = io::large_buffer();
@@ -57,7 +47,7 @@ fn put_state(output: Output, out: &mut [u8], rec: Record, memory: &[u32]) -> Out
     let prev = put_links(figures, out, rec.prev);
     let next = put_links(prev, out, rec.next);
     let words = put_words(next, out, memory, rec.words as usize);
-    lines::put_feed(words, out)
+    lines::put_byte(words, out, 10)
 }
 
 // Puts what the record holds beside its links.

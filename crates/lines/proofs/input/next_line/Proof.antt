@@ -1,63 +1,51 @@
+-- `lines::input::next_line` is safe and ends. Invariant: both buffers keep their lengths. Measure: the turns left, of which each takes one byte or one read.
+use borrow.Author.Needs.{needs}
+use mathlib.Core.Path.{_≡_}
+use lib.ListN.{length}
 use Rattle.lines.proofs.input.next_line.Statement.{statement}
 use Rattle.lines.proofs.input.next_line.Tie as tie
-use Rattle.lines.proofs.input.next_line.Reads as reads
-use Rattle.lines.proofs.input.next_line.Lts as lts
-use Rattle.lines.proofs.input.Input.begun.Reads as begun-reads
-use Rattle.lines.proofs.input.next_byte.Reads as next-byte-reads
 
 abbrev Inv-loop : tie.InvT-loop
-Inv-loop buffer₀ line₀ i₀ turns₀ buffer line i turns = ?
+Inv-loop buffer₀ line₀ i₀ turns₀ buffer line i turns = (length buffer ≡ length buffer₀) × (length line ≡ length line₀)
 
 abbrev μ-loop : tie.MeasureT-loop
-μ-loop buffer₀ line₀ i₀ turns₀ buffer line i turns = ?
+μ-loop buffer₀ line₀ i₀ turns₀ buffer line i turns = turns
 
--- src/input.rt:59:9
 begun-requires : tie.Need-begun-requires Inv-loop μ-loop
-begun-requires c κs = ?
+begun-requires c κs = search needs
 
--- src/input.rt:61:5
 loop-holds : tie.Need-loop-holds Inv-loop μ-loop
-loop-holds c = ?
+loop-holds c = search needs
 
--- src/input.rt:62:9
 sub-turns : tie.Need-sub-turns Inv-loop μ-loop
-sub-turns c = ?
+sub-turns c = search needs
 
--- src/input.rt:63:9
 next-byte-requires : tie.Need-next-byte-requires Inv-loop μ-loop
-next-byte-requires c κs = ?
+next-byte-requires c κs = search needs
 
--- src/input.rt:61:5
 loop-less : tie.Need-loop-less Inv-loop μ-loop
-loop-less c = ?
+loop-less c = search needs
 
--- src/input.rt:61:5
 loop-again : tie.Need-loop-again Inv-loop μ-loop
-loop-again c = ?
+loop-again c = search needs
 
--- src/input.rt:58:1
 same-length : tie.Need-same-length Inv-loop μ-loop
-same-length c = ?
+same-length c = search needs
 
--- src/input.rt:58:1
 same-length-2 : tie.Need-same-length-2 Inv-loop μ-loop
-same-length-2 c = ?
+same-length-2 c = search needs
 
--- src/input.rt:58:1
 returns : tie.Need-returns Inv-loop μ-loop
-returns c = ?
+returns c = search needs
 
--- src/input.rt:58:1
 same-length-3 : tie.Need-same-length-3 Inv-loop μ-loop
-same-length-3 c = ?
+same-length-3 c = search needs
 
--- src/input.rt:58:1
 same-length-4 : tie.Need-same-length-4 Inv-loop μ-loop
-same-length-4 c = ?
+same-length-4 c = search needs
 
--- src/input.rt:58:1
 returns-2 : tie.Need-returns-2 Inv-loop μ-loop
-returns-2 c = ?
+returns-2 c = search needs
 
 pub next-line-spec : {M : Type 1} → statement M
 next-line-spec =
