@@ -15,6 +15,7 @@ pub use input::next_line;
 pub use input::read_kept;
 pub use output::Output;
 pub use output::flush;
+pub use output::flush_if;
 pub use put::put_answer;
 pub use put::put_byte;
 pub use put::put_number;

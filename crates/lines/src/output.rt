@@ -45,3 +45,11 @@ pub fn flush(output: Output, buffer: &[u8]) -> Output
     }
     Output { used: 0, failed }
 }
+
+// Writes out what waits if it is to be written now.
+pub fn flush_if(output: Output, buffer: &[u8], now: bool) -> Output {
+    if now {
+        return flush(output, buffer);
+    }
+    output
+}

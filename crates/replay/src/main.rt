@@ -5,10 +5,23 @@
 // and `stdout` the original's states after each, in the same form (tests/trace/README.md): the check of this crate compares them byte by byte.
 ghost use Prim.Native.Nat.{_≤_};
 ghost use lib.ListN.{length};
+use frame::Line;
 use heap::Record;
 use lines::Input;
 use lines::Output;
 use words::Link;
+
+// What goes on from line to line.
+pub struct Run {
+    // the record of the heap in use
+    pub rec: Record,
+    // where reading stands
+    pub input: Input,
+    // where writing stands
+    pub output: Output,
+    // there may be more lines
+    pub more: bool,
+}
 
 fn main() {
     let mut memory = [0u32; 16383];
@@ -19,33 +32,70 @@ fn main() {
     lines::flush(output, &out);
 }
 
-// Replays every line that ends with its line feed.
+// Replays every line.
 fn all_lines(memory: &mut [u32], out: &mut [u8], line: &mut [u8], buffer: &mut [u8]) -> Output
     requires { ⌜ 19 ≤ length (now out) ⌝ }
 {
-    let mut input = lines::next_line(Input::start(), buffer, line);
-    let mut rec = Record::empty();
-    let mut output = Output::start();
+    let mut run = Run {
+        rec: Record::empty(),
+        input: Input::start(),
+        output: Output::start(),
+        more: true,
+    };
     let mut turns = u64::MAX;
-    while 0 < turns && input.fed {
+    while 0 < turns && run.more {
         turns -= 1;
-        let read = lines::read_kept(line, input.kept);
-        let reply = turn::turn(rec, memory, read);
-        rec = reply.rec;
-        let answered = lines::put_answer(output, out, reply.number, reply.value, reply.compared);
-        output = put_state(answered, out, rec, memory);
-        input = lines::next_line(input, buffer, line);
+        run = one_line(run, memory, out, line, buffer);
     }
-    output
+    run.output
+}
+
+// Reads a line and replays it, if there is one.
+fn one_line(run: Run, memory: &mut [u32], out: &mut [u8], line: &mut [u8], buffer: &mut [u8]) -> Run
+    requires { ⌜ 19 ≤ length (now out) ⌝ }
+{
+    let before = run.input;
+    let rec = run.rec;
+    let output = run.output;
+    let input = lines::next_line(before, buffer, line);
+    if input.fed {
+        let read = lines::read_kept(line, input.kept);
+        return replay(rec, input, output, memory, out, read);
+    }
+    Run {
+        rec,
+        input,
+        output,
+        more: false,
+    }
+}
+
+// Takes a line's turn, and puts its answer line and the state after it.
+fn replay(rec: Record, input: Input, output: Output, memory: &mut [u32], out: &mut [u8], line: Line) -> Run
+    requires { ⌜ 19 ≤ length (now out) ⌝ }
+{
+    let reply = turn::turn(rec, memory, line);
+    let next = reply.rec;
+    let answered = lines::put_answer(output, out, reply.number, reply.value, reply.compared);
+    let shown = put_state(answered, out, next, memory);
+    let more = !shown.failed;
+    Run {
+        rec: next,
+        input,
+        output: shown,
+        more,
+    }
 }
 
 // Puts the whole state on a line.
 fn put_state(output: Output, out: &mut [u8], rec: Record, memory: &[u32]) -> Output
     requires { ⌜ 19 ≤ length (now out) ⌝ }
 {
+    let prevs = rec.prev;
+    let nexts = rec.next;
     let figures = put_figures(output, out, rec);
-    let prev = put_links(figures, out, rec.prev);
-    let next = put_links(prev, out, rec.next);
+    let prev = put_links(figures, out, prevs);
+    let next = put_links(prev, out, nexts);
     let words = put_words(next, out, memory, rec.words as usize);
     lines::put_byte(words, out, 10)
 }
@@ -56,12 +106,9 @@ fn put_figures(output: Output, out: &mut [u8], rec: Record) -> Output
 {
     let fresh = rec.fresh;
     let flag: u32 = if fresh { 1 } else { 0 };
-    let words = lines::put_number(output, out, rec.words);
-    let in_use = lines::put_number(words, out, rec.in_use);
-    let peak = lines::put_number(in_use, out, rec.peak);
-    let high = lines::put_number(peak, out, rec.high);
-    let cached = lines::put_number(high, out, rec.cached.0 as u32);
-    lines::put_number(cached, out, flag)
+    let cached = rec.cached.0 as u32;
+    let figures = [rec.words, rec.in_use, rec.peak, rec.high, cached, flag];
+    put_words(output, out, &figures, 6)
 }
 
 // Puts six links.

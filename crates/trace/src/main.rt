@@ -49,39 +49,42 @@ fn all_lines(memory: &mut [u32], out: &mut [u8], line: &mut [u8], buffer: &mut [
     run.output
 }
 
-// Reads a line and answers it, if there is one.
+// Reads a line and answers it, if there is one. A last line without its line feed is no frame.
 fn one_line(run: Run, memory: &mut [u32], out: &mut [u8], line: &mut [u8], buffer: &mut [u8]) -> Run
     requires { ⌜ 19 ≤ length (now out) ⌝ }
 {
-    let mut next = run;
-    let input = lines::next_line(run.input, buffer, line);
-    next.input = input;
+    let before = run.input;
+    let rec = run.rec;
+    let output = run.output;
+    let input = lines::next_line(before, buffer, line);
     if input.fed {
         let read = lines::read_kept(line, input.kept);
-        return answer(next, memory, out, read);
+        return answer(rec, input, output, memory, out, read);
     }
-    next.more = false;
     if !input.failed && 0 < input.kept {
-        return answer(next, memory, out, Line::Bad);
+        return answer(rec, input, output, memory, out, Line::Bad);
     }
-    next
+    Run {
+        rec,
+        input,
+        output,
+        more: false,
+    }
 }
 
 // Takes a line's turn and writes its answer line. What waits is written out before the program has to wait for input.
-fn answer(run: Run, memory: &mut [u32], out: &mut [u8], line: Line) -> Run
+fn answer(rec: Record, input: Input, output: Output, memory: &mut [u32], out: &mut [u8], line: Line) -> Run
     requires { ⌜ 19 ≤ length (now out) ⌝ }
 {
-    let mut next = run;
-    let reply = turn::turn(run.rec, memory, line);
-    next.rec = reply.rec;
-    let output = lines::put_answer(run.output, out, reply.number, reply.value, reply.compared);
-    next.output = output;
-    let input = run.input;
-    if input.at == input.end {
-        next.output = lines::flush(output, out);
+    let reply = turn::turn(rec, memory, line);
+    let next = reply.rec;
+    let put = lines::put_answer(output, out, reply.number, reply.value, reply.compared);
+    let written = lines::flush_if(put, out, input.at == input.end);
+    let more = input.fed && !written.failed;
+    Run {
+        rec: next,
+        input,
+        output: written,
+        more,
     }
-    if output.failed {
-        next.more = false;
-    }
-    next
 }
