@@ -95,6 +95,7 @@ impl<const WORDS: usize> StaticMemory<WORDS> {
     }
 
     /// The words, the first time; nothing ever after.
+    #[allow(clippy::mut_from_ref)]
     pub fn take(&'static self) -> Option<&'static mut [u32]> {
         if self.taken.swap(true, core::sync::atomic::Ordering::AcqRel) {
             return None;
