@@ -4,34 +4,50 @@ use lischemur::{Heap, Offset, Record};
 use std::fmt::{Arguments, Debug};
 use std::process::exit;
 
-/// How many checks were made.
-pub struct Checks(u64);
+/// Checks that stop the program when one fails.
+pub struct Checks {
+    /// How many were made.
+    made: u64,
+    /// Which part of the tests they belong to.
+    part: String,
+}
 
 impl Checks {
     /// No check made yet.
     pub fn new() -> Checks {
-        Checks(0)
+        Checks {
+            made: 0,
+            part: String::new(),
+        }
     }
 
     /// How many checks were made.
     pub fn made(&self) -> u64 {
-        self.0
+        self.made
+    }
+
+    /// Say which part of the tests begins.
+    pub fn begin(&mut self, part: String) {
+        self.part = part;
     }
 
     /// Count a check, and stop if two values differ.
     pub fn equal<T: PartialEq + Debug>(&mut self, what: Arguments, got: T, wanted: T) {
-        self.0 += 1;
+        self.made += 1;
         if got != wanted {
-            println!("rust: FAILED: {what}: got {got:?}, wanted {wanted:?}");
+            println!(
+                "rust: FAILED: {}: {what}: got {got:?}, wanted {wanted:?}",
+                self.part
+            );
             exit(1);
         }
     }
 
     /// Count a check, and stop if it does not hold.
     pub fn holds(&mut self, what: Arguments, held: bool) {
-        self.0 += 1;
+        self.made += 1;
         if !held {
-            println!("rust: FAILED: {what}");
+            println!("rust: FAILED: {}: {what}", self.part);
             exit(1);
         }
     }

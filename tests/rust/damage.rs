@@ -89,6 +89,7 @@ fn judged(checks: &mut Checks, heap: &mut Heap, live: &[Offset], numbers: &mut N
 pub fn run(checks: &mut Checks) -> u32 {
     let (mut found, mut harmless) = (0, 0);
     for seed in 0..ROUNDS {
+        checks.begin(format!("damage {seed}"));
         let numbers = &mut Numbers::new(seed);
         let mut memory = Memory::<{ WORDS as usize }>::new();
         let mut heap = Heap::make(memory.words()).expect("an accepted length");
@@ -122,6 +123,7 @@ pub fn run(checks: &mut Checks) -> u32 {
             found += 1;
         }
     }
+    checks.begin("all damage".into());
     checks.holds(format_args!("{harmless} harmless changes"), harmless > 100);
     checks.holds(format_args!("{found} damaged heaps"), found > 1000);
     found

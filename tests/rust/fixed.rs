@@ -146,7 +146,7 @@ fn whole_run(checks: &mut Checks) {
     let mut heap = Heap::over(Record::EMPTY, memory.words());
     for (frame, line) in WHOLE_RUN {
         let got = answer_line(&mut heap, frame);
-        checks.equal(format_args!("whole run, {frame}"), got.as_str(), line);
+        checks.equal(format_args!("frame {frame}"), got.as_str(), line);
     }
 }
 
@@ -360,7 +360,7 @@ fn records(checks: &mut Checks) {
     let freed = heap.take_back(Offset(4));
     checks.equal(format_args!("free"), freed, Err(Refusal::Damaged));
     checks.equal(
-        format_args!("nothing"),
+        format_args!("after refusals"),
         state(&heap, 33),
         (Record::EMPTY, vec![7; 33]),
     );
@@ -380,7 +380,7 @@ fn records(checks: &mut Checks) {
         Err(Refusal::BadLength),
     );
     checks.equal(
-        format_args!("a refused making"),
+        format_args!("after it"),
         state(&heap, 34),
         (kept, vec![7; 34]),
     );
@@ -407,12 +407,18 @@ fn records(checks: &mut Checks) {
 
 /// Run all.
 pub fn run(checks: &mut Checks) {
-    layout(checks);
-    numbers(checks);
-    whole_run(checks);
-    incident(checks);
-    entries(checks);
-    frees(checks);
-    pointers(checks);
-    records(checks);
+    let parts: [(&str, fn(&mut Checks)); 8] = [
+        ("layout", layout),
+        ("answer numbers", numbers),
+        ("whole run", whole_run),
+        ("incident", incident),
+        ("entries reckoned by hand", entries),
+        ("refused frees", frees),
+        ("pointers", pointers),
+        ("records", records),
+    ];
+    for (name, part) in parts {
+        checks.begin(name.into());
+        part(checks);
+    }
 }

@@ -177,6 +177,7 @@ impl Pair<'_> {
 
 /// Run one history; how many requests it had.
 fn history(checks: &mut Checks, oracle: &mut Oracle, seed: u64, words: u32, requests: u32) -> u32 {
+    checks.begin(format!("history {seed} on {words} words"));
     let mut memory = Box::new(Memory::<{ MOST_WORDS as usize }>::new());
     let lent = &mut memory.words()[..words as usize];
     let mut pair = Pair {
