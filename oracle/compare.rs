@@ -64,21 +64,29 @@ impl Comparison {
         }
         let mut run = least.steps.len();
         while run > 0 {
-            let mut from = 0;
-            while from < least.steps.len() {
-                let mut shorter = least.clone();
-                shorter
-                    .steps
-                    .drain(from..(from + run).min(least.steps.len()));
-                if self.pair.play(&shorter).is_err() {
-                    least = shorter;
-                } else {
-                    from += run;
-                }
+            let before = least.steps.len();
+            self.leave_out(&mut least, run);
+            // Once more with single steps as long as that helps: fewer asks give other ranks.
+            if run > 1 || least.steps.len() == before {
+                run /= 2;
             }
-            run /= 2;
         }
         least
+    }
+
+    /// Leave out every run of so many steps without which there still is a difference.
+    fn leave_out(&mut self, least: &mut History, run: usize) {
+        let mut from = 0;
+        while from < least.steps.len() {
+            let mut shorter = least.clone();
+            let to = (from + run).min(least.steps.len());
+            shorter.steps.drain(from..to);
+            if self.pair.play(&shorter).is_err() {
+                *least = shorter;
+            } else {
+                from += run;
+            }
+        }
     }
 
     /// Every history of up to so many requests: asks of these sizes, and all frees.
