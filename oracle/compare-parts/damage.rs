@@ -1,0 +1,287 @@
+//! Damage: sound records and words changed in one place or two, as a stray write or a broken kernel would. Some changes leave the
+//! heap sound; whether they do is for the two audits to say.
+
+use crate::audit::{class_of, tiling, Chunk};
+use crate::numbers::Numbers;
+use crate::pair::misleading;
+use crate::port::Record;
+
+/// A record and its words, to be damaged.
+#[derive(Clone, PartialEq)]
+pub struct State {
+    pub record: Record,
+    pub words: Vec<u32>,
+}
+
+impl State {
+    /// Damage it in one way, drawn at random; which.
+    pub fn damage(&mut self, numbers: &mut Numbers) -> &'static str {
+        let chunks = tiling(&self.words).unwrap_or_default();
+        let free: Vec<Chunk> = chunks.iter().copied().filter(|chunk| !chunk.used).collect();
+        let used: Vec<Chunk> = chunks.iter().copied().filter(|chunk| chunk.used).collect();
+        match numbers.below(8) {
+            0 => self.change_field(numbers),
+            1 => self.change_figure(numbers, &chunks),
+            2 if !self.words.is_empty() => self.change_word(numbers),
+            3 | 4 if !chunks.is_empty() => self.change_chunk(numbers, &chunks),
+            5 | 6 if !free.is_empty() => self.change_lists(numbers, &free),
+            7 if !used.is_empty() => self.change_used(numbers, &used),
+            _ => self.change_length(numbers),
+        }
+    }
+
+    /// A field of the record becomes any number, a near one, or another field's.
+    fn change_field(&mut self, numbers: &mut Numbers) -> &'static str {
+        let class = numbers.below(6) as usize;
+        let link = self.some_link(numbers);
+        let number = numbers.next() as u32;
+        match numbers.below(8) {
+            0 => self.record.prev[class] = link,
+            1 => self.record.next[class] = link,
+            2 => self.record.cached = link,
+            3 => self.record.fresh = !self.record.fresh,
+            4 => self.record.words = near(numbers, self.record.words, number),
+            5 => self.record.in_use = near(numbers, self.record.in_use, number),
+            6 => self.record.peak = near(numbers, self.record.peak, number),
+            _ => self.record.high = near(numbers, self.record.high, number),
+        }
+        "a field of the record"
+    }
+
+    /// Peak or high water becomes one of the numbers around which the verdict turns.
+    fn change_figure(&mut self, numbers: &mut Numbers, chunks: &[Chunk]) -> &'static str {
+        let top = chunks
+            .iter()
+            .filter(|chunk| chunk.used)
+            .map(Chunk::end)
+            .max();
+        let bytes = 4 * self.words.len() as u32;
+        let figures = [
+            top.unwrap_or(0) as u32,
+            bytes,
+            bytes.wrapping_sub(4),
+            self.record.in_use,
+            self.record.high,
+            0,
+        ];
+        let step = numbers.pick(&[0, 0, 1, 4, 8, u32::MAX, u32::MAX - 7]);
+        let figure = numbers.pick(&figures).wrapping_add(step);
+        if numbers.one_in(2) {
+            self.record.peak = figure;
+            return "the peak";
+        }
+        self.record.high = figure;
+        "high water"
+    }
+
+    /// Any word becomes another number.
+    fn change_word(&mut self, numbers: &mut Numbers) -> &'static str {
+        let index = numbers.below(self.words.len() as u32) as usize;
+        self.words[index] = match numbers.below(3) {
+            0 => self.words[index] ^ 1 << numbers.below(32),
+            1 => misleading(numbers),
+            _ => numbers.pick(&self.words),
+        };
+        "a word"
+    }
+
+    /// A header, footer or guard is changed: a flag, the length, or used for free.
+    fn change_chunk(&mut self, numbers: &mut Numbers, chunks: &[Chunk]) -> &'static str {
+        let chunk = numbers.pick(chunks);
+        let guard = self.words.len() - 1;
+        match numbers.below(6) {
+            0 => self.words[chunk.word] ^= 1 << numbers.below(4),
+            1 => {
+                self.words[chunk.word] = self.words[chunk.word].wrapping_add(numbers.pick(&[
+                    8,
+                    16,
+                    u32::MAX - 7,
+                    1 << 31,
+                ]))
+            }
+            2 => self.words[chunk.end() / 4 - 1] ^= 8 << numbers.below(4),
+            3 => self.words[guard] = numbers.below(9),
+            4 => self.words[chunk.end() / 4] ^= 1,
+            _ => self.turn(chunk),
+        }
+        "a header, a footer or the guard"
+    }
+
+    /// A used chunk becomes free with footer, left bit and bytes in use right, but listed nowhere; a free one the other way.
+    fn turn(&mut self, chunk: Chunk) {
+        self.words[chunk.word] ^= 2;
+        self.words[chunk.end() / 4] ^= 1;
+        let length = chunk.length as u32;
+        if chunk.used {
+            self.words[chunk.end() / 4 - 1] = length;
+            self.record.in_use = self.record.in_use.wrapping_sub(length);
+        } else {
+            self.record.in_use = self.record.in_use.wrapping_add(length);
+        }
+    }
+
+    /// The lists are changed: half a link word, two link words swapped, a chunk moved, dropped, listed twice, or cut in two.
+    fn change_lists(&mut self, numbers: &mut Numbers, free: &[Chunk]) -> &'static str {
+        let chunk = numbers.pick(free);
+        let other = numbers.pick(free);
+        let class = class_of(chunk.length) as u16;
+        match numbers.below(9) {
+            0 => self.set_next(chunk.link() as u16, other.link() as u16),
+            1 => self.set_prev(chunk.link() as u16, other.link() as u16),
+            2 => self.words.swap(chunk.word + 1, other.word + 1),
+            3 => self.words[chunk.word + 1] = self.words[chunk.word + 1].rotate_left(16),
+            4 => self.unlist(chunk),
+            5 => self.list(chunk, class),
+            6 | 7 => {
+                self.unlist(chunk);
+                self.list(
+                    chunk,
+                    if numbers.one_in(2) {
+                        class
+                    } else {
+                        numbers.below(6) as u16
+                    },
+                );
+            }
+            _ => self.cut(chunk),
+        }
+        "the lists"
+    }
+
+    /// A free chunk becomes two that touch, both listed.
+    fn cut(&mut self, chunk: Chunk) {
+        if chunk.length < 32 {
+            return;
+        }
+        self.unlist(chunk);
+        let right = Chunk {
+            word: chunk.word + 4,
+            length: chunk.length - 16,
+            ..chunk
+        };
+        let left = Chunk {
+            length: 16,
+            ..chunk
+        };
+        for (part, left_used) in [(left, 1), (right, 0)] {
+            self.words[part.word] = part.length as u32 + left_used;
+            self.words[part.end() / 4 - 1] = part.length as u32;
+            self.list(part, class_of(part.length) as u16);
+        }
+    }
+
+    /// A used chunk is cached, listed, or written into.
+    fn change_used(&mut self, numbers: &mut Numbers, used: &[Chunk]) -> &'static str {
+        let chunk = numbers.pick(used);
+        match numbers.below(4) {
+            0 => self.record.cached = chunk.link() as u16,
+            1 => self.list(chunk, class_of(chunk.length) as u16),
+            2 => self.record.cached = (chunk.link() + numbers.within(1, 3) as usize) as u16,
+            _ => {
+                let word = numbers.within(chunk.word as u32 + 1, chunk.end() as u32 / 4 - 1);
+                self.words[word as usize] = misleading(numbers);
+            }
+        }
+        "a used chunk"
+    }
+
+    /// More or fewer words are lent, and the record may say so.
+    fn change_length(&mut self, numbers: &mut Numbers) -> &'static str {
+        let now = self.words.len();
+        let length = numbers.pick(&[
+            0,
+            1,
+            now.saturating_sub(2),
+            now.saturating_sub(1),
+            now + 1,
+            now + 2,
+        ]);
+        self.words.resize(length, 2);
+        if numbers.one_in(2) {
+            self.record.words = length as u32;
+        }
+        "the length"
+    }
+
+    /// A link to a sentinel, to a word of the heap, to just behind it, or any.
+    fn some_link(&self, numbers: &mut Numbers) -> u16 {
+        let words = self.words.len() as u32;
+        match numbers.below(4) {
+            0 => numbers.below(7) as u16,
+            1 => (6 + numbers.below(words + 3)) as u16,
+            2 => numbers.pick(&self.record.next),
+            _ => numbers.next() as u16,
+        }
+    }
+
+    /// The next link of a sentinel or chunk.
+    fn next(&self, link: u16) -> u16 {
+        match link {
+            0..=5 => self.record.next[link as usize],
+            _ => (self.words[link as usize - 5] >> 16) as u16,
+        }
+    }
+
+    /// The prev link of a sentinel or chunk.
+    fn prev(&self, link: u16) -> u16 {
+        match link {
+            0..=5 => self.record.prev[link as usize],
+            _ => self.words[link as usize - 5] as u16,
+        }
+    }
+
+    /// Set the next link of a sentinel or chunk; nothing where there is no such word.
+    fn set_next(&mut self, link: u16, to: u16) {
+        if link < 6 {
+            self.record.next[link as usize] = to;
+        } else if let Some(word) = self.words.get_mut(link as usize - 5) {
+            *word = *word & 0xFFFF | (to as u32) << 16;
+        }
+    }
+
+    /// Set the prev link of a sentinel or chunk; nothing where there is no such word.
+    fn set_prev(&mut self, link: u16, to: u16) {
+        if link < 6 {
+            self.record.prev[link as usize] = to;
+        } else if let Some(word) = self.words.get_mut(link as usize - 5) {
+            *word = *word & 0xFFFF_0000 | to as u32;
+        }
+    }
+
+    /// Take a chunk out of the list that it is in.
+    fn unlist(&mut self, chunk: Chunk) {
+        let link = chunk.link() as u16;
+        let (prev, next) = (self.prev(link), self.next(link));
+        self.set_next(prev, next);
+        self.set_prev(next, prev);
+    }
+
+    /// Put a chunk at the head of a list.
+    fn list(&mut self, chunk: Chunk, class: u16) {
+        let link = chunk.link() as u16;
+        let first = self.next(class);
+        self.set_next(class, link);
+        self.set_prev(first, link);
+        self.set_prev(link, class);
+        self.set_next(link, first);
+    }
+}
+
+/// A number near another one, or any.
+fn near(numbers: &mut Numbers, number: u32, any: u32) -> u32 {
+    match numbers.below(4) {
+        0 => any,
+        1 => 0,
+        _ => number.wrapping_add(numbers.pick(&[
+            1,
+            2,
+            4,
+            8,
+            16,
+            u32::MAX,
+            u32::MAX - 1,
+            u32::MAX - 7,
+            u32::MAX - 15,
+        ])),
+    }
+}

@@ -1,0 +1,365 @@
+//! The Rust and the port side by side: each step of a history is put to both, and afterwards everything that can be seen is
+//! compared.
+//!
+//! Compared are the answer with its value and count, the six sentinels' links, every word of the heap and a few behind it, the
+//! cached chunk, the counters and the flag. Links are compared by what they name; since the sentinels' links and every link word
+//! agree, so do the lists and their order. A word is a link word if it was last written as one, also where it has become part of a payload.
+//! Outside the Rust's domain it is not asked: there the answer has to be the rules' number, and nothing may have changed.
+
+use crate::damage::State;
+use crate::numbers::Numbers;
+use crate::port::{self, Record, Reply};
+use oracle::{can_make, Name, Oracle};
+
+/// The largest size that the rules serve.
+pub const LARGEST_SIZE: u32 = 4_294_967_284;
+
+/// Words behind a heap that are watched.
+const BEHIND: u32 = 8;
+
+/// One step of a history. A payload is told by its rank among the live ones, counted round, so that a step keeps a meaning when
+/// others are left out.
+#[derive(Clone, Copy, Debug)]
+pub enum Step {
+    /// Make a heap of the first words lent, saying so many words.
+    Make { lent: u32, words: u32 },
+    /// Ask for bytes.
+    Ask(u32),
+    /// Free the live payload of a rank; nothing if none is live.
+    Free(u32),
+    /// Free whatever is at an offset.
+    FreeAt(u32),
+    /// A task writes into the live payload of a rank, what a seed says.
+    Write(u32, u64),
+    /// Read the mark for so many stacklets.
+    Mark(u32),
+}
+
+/// A whole history: what memory holds before it (zeros for seed 0), and its steps.
+#[derive(Clone)]
+pub struct History {
+    pub words: u32,
+    pub fill: u64,
+    pub steps: Vec<Step>,
+}
+
+/// Both heaps.
+pub struct Pair {
+    oracle: Oracle,
+    /// The port's record and memory.
+    pub record: Record,
+    pub memory: Vec<u32>,
+    /// For each word of the memory, whether it was last written as a link word.
+    is_link: Vec<bool>,
+    /// Payloads handed out and not taken back.
+    live: Vec<u32>,
+    /// The words of the heap, 0 before one is made.
+    made: u32,
+    /// The words that are compared.
+    watched: u32,
+    /// Requests put to both so far.
+    pub requests: u64,
+}
+
+/// The answer of a number alone.
+fn refusal(number: u32) -> Reply {
+    Reply {
+        number,
+        value: 0,
+        compared: 0,
+    }
+}
+
+/// The port's link to what the Rust's link names.
+fn port_link(name: Name) -> Option<u16> {
+    match name {
+        Name::Sentinel(class) => Some(class as u16),
+        Name::Chunk(offset) => Some((offset / 4 + 6) as u16),
+        Name::Nothing => None,
+    }
+}
+
+impl Pair {
+    /// Both, with no heap made.
+    pub fn only() -> Pair {
+        let words = oracle::MOST_WORDS as usize;
+        Pair {
+            oracle: Oracle::only(),
+            record: Record::default(),
+            memory: vec![0; words + 8],
+            is_link: vec![false; words + 8],
+            live: Vec::new(),
+            made: 0,
+            watched: 0,
+            requests: 0,
+        }
+    }
+
+    /// Play a history; what differs and after which step, if anything does.
+    pub fn play(&mut self, history: &History) -> Result<(), (usize, String)> {
+        self.begin(history.words, history.fill);
+        for (at, step) in history.steps.iter().enumerate() {
+            self.step(*step).map_err(|what| (at, what))?;
+        }
+        Ok(())
+    }
+
+    /// Play a history and say each step with its answers.
+    pub fn tell(&mut self, history: &History) -> String {
+        self.begin(history.words, history.fill);
+        let mut lines = format!("memory: {} words, fill {}\n", history.words, history.fill);
+        for step in &history.steps {
+            let live = self.live.clone();
+            let told = match step {
+                Step::Free(rank) if !live.is_empty() => {
+                    format!("FreeAt({})", live[*rank as usize % live.len()])
+                }
+                other => format!("{other:?}"),
+            };
+            match self.step(*step) {
+                Ok(answer) => lines += &format!("{told}: {answer}\n"),
+                Err(what) => return lines + &format!("{told}: {what}\n"),
+            }
+        }
+        lines
+    }
+
+    /// Memory before a history: no heap, and words of a seed.
+    pub fn begin(&mut self, words: u32, fill: u64) {
+        self.record = Record::default();
+        self.made = 0;
+        self.live.clear();
+        self.watched = (words + BEHIND).min(oracle::MOST_WORDS);
+        let mut numbers = Numbers::new(fill);
+        for index in 0..self.watched {
+            let word = if fill == 0 {
+                0
+            } else {
+                misleading(&mut numbers)
+            };
+            self.write(index, word);
+        }
+    }
+
+    /// Write a word of both memories.
+    fn write(&mut self, index: u32, word: u32) {
+        self.memory[index as usize] = word;
+        self.is_link[index as usize] = false;
+        // Safety: no heap is made yet, or the word is one of a payload that is live.
+        unsafe { self.oracle.set_word(index, word) }
+    }
+
+    /// Put a step to both and compare: the answer, or what differs.
+    pub fn step(&mut self, step: Step) -> Result<String, String> {
+        let both = match step {
+            Step::Make { lent, words } => self.make(lent, words),
+            Step::Ask(size) => self.ask(size),
+            Step::FreeAt(offset) => self.free(offset),
+            Step::Free(_) | Step::Write(..) if self.live.is_empty() => {
+                return Ok("none live".into())
+            }
+            Step::Free(rank) => self.free(self.live[rank as usize % self.live.len()]),
+            Step::Write(rank, seed) => {
+                self.scribble(self.live[rank as usize % self.live.len()], seed);
+                return Ok("written".into());
+            }
+            Step::Mark(stacklets) => return self.mark(stacklets),
+        };
+        self.requests += 1;
+        let (rust, port) = both;
+        if rust != port {
+            return Err(format!("answers differ: {rust} wanted, {port} given"));
+        }
+        self.note_links();
+        self.difference().map_or(Ok(port.to_string()), Err)
+    }
+
+    /// Both answers to making. Lengths that are not accepted, or not those of the slice, get 6.
+    fn make(&mut self, lent: u32, words: u32) -> (Reply, Reply) {
+        let slice = &mut self.memory[..lent as usize];
+        let port = port::make(&mut self.record, slice, words);
+        if lent != words || !can_make(words) {
+            return (refusal(6), port);
+        }
+        self.oracle.make(words);
+        self.live.clear();
+        self.made = words;
+        (refusal(0), port)
+    }
+
+    /// Both answers to asking. 1, 2 and 5 are the rules'; where the Rust is asked, null is 3.
+    fn ask(&mut self, size: u32) -> (Reply, Reply) {
+        let slice = &mut self.memory[..self.made as usize];
+        let port = port::hand_out(&mut self.record, slice, size);
+        let rust = match size {
+            0 => refusal(1),
+            _ if size > LARGEST_SIZE => refusal(2),
+            _ if self.made == 0 => refusal(5),
+            _ => self.ask_rust(size),
+        };
+        (rust, port)
+    }
+
+    /// The Rust's answer to asking.
+    fn ask_rust(&mut self, size: u32) -> Reply {
+        let offset = self.oracle.hand_out(size);
+        self.live.extend(offset);
+        Reply {
+            number: if offset.is_some() { 0 } else { 3 },
+            value: offset.unwrap_or(0),
+            compared: self.oracle.compared(),
+        }
+    }
+
+    /// Both answers to freeing. Before a heap is made 5 is the rules', and 4 where nothing live begins at the offset.
+    fn free(&mut self, offset: u32) -> (Reply, Reply) {
+        let slice = &mut self.memory[..self.made as usize];
+        let port = port::take_back(&mut self.record, slice, offset);
+        if self.made == 0 {
+            return (refusal(5), port);
+        }
+        let Some(rank) = self.live.iter().position(|live| *live == offset) else {
+            return (refusal(4), port);
+        };
+        self.live.swap_remove(rank);
+        // Safety: the payload is live, and live payloads are those of used chunks of 16 bytes or more.
+        unsafe { self.oracle.take_back(offset) }
+        (refusal(0), port)
+    }
+
+    /// Both marks; they have to agree.
+    fn mark(&mut self, stacklets: u32) -> Result<String, String> {
+        if self.made == 0 {
+            return Ok("no heap".into());
+        }
+        self.requests += 1;
+        let port = port::mark(&mut self.record, stacklets);
+        let rust = self.oracle.adjusted_mark(stacklets);
+        if rust != port {
+            return Err(format!("marks differ: {rust:?} wanted, {port:?} given"));
+        }
+        self.difference().map_or(Ok(format!("{port:?}")), Err)
+    }
+
+    /// A task writes into its payload, all of it or a stretch.
+    fn scribble(&mut self, payload: u32, seed: u64) {
+        let mut numbers = Numbers::new(seed);
+        let (length, _) = self.oracle.header(payload - 4);
+        let (mut from, mut to) = (payload / 4, (payload - 4 + length) / 4);
+        if numbers.one_in(2) {
+            from = numbers.within(from, to - 1);
+            to = numbers.within(from + 1, to);
+        }
+        for index in from..to {
+            let copied = self.memory[numbers.below(self.made) as usize];
+            let word = if numbers.one_in(3) {
+                copied
+            } else {
+                misleading(&mut numbers)
+            };
+            self.write(index, word);
+        }
+    }
+
+    /// Note which words now are link words and which are footers: those of the free chunks.
+    fn note_links(&mut self) {
+        let mut offset = 0;
+        while offset + 4 < 4 * self.made {
+            let (length, used) = self.oracle.header(offset);
+            if !used {
+                self.is_link[offset as usize / 4 + 1] = true;
+                self.is_link[(offset + length) as usize / 4 - 1] = false;
+            }
+            offset += length;
+        }
+    }
+
+    /// How many payloads are live.
+    pub fn live_count(&self) -> u32 {
+        self.live.len() as u32
+    }
+
+    /// The port's record and its words.
+    pub fn state(&self) -> State {
+        State {
+            record: self.record,
+            words: self.memory[..self.made as usize].to_vec(),
+        }
+    }
+
+    /// What differs between the two states, if anything does.
+    pub fn difference(&self) -> Option<String> {
+        let record = self.record_difference();
+        record.or_else(|| (0..self.watched).find_map(|index| self.word_difference(index)))
+    }
+
+    /// What differs between the record and the Rust's statics.
+    fn record_difference(&self) -> Option<String> {
+        let wanted = if self.made == 0 {
+            Record::default()
+        } else {
+            self.rust_record()
+        };
+        let figures = port::figures(&self.record);
+        if self.record != wanted {
+            Some(format!(
+                "records differ: {wanted:?} wanted, {:?} given",
+                self.record
+            ))
+        } else if figures != (wanted.in_use, wanted.peak, wanted.high) {
+            Some(format!("the readers say {figures:?} of {wanted:?}"))
+        } else {
+            None
+        }
+    }
+
+    /// The record that the Rust's statics stand for.
+    fn rust_record(&self) -> Record {
+        let mut record = Record {
+            words: self.made,
+            in_use: self.oracle.in_use(),
+            peak: self.oracle.peak(),
+            high: self.oracle.high(),
+            cached: self
+                .oracle
+                .cached()
+                .map_or(0, |offset| (offset / 4 + 6) as u16),
+            fresh: self.oracle.fresh(),
+            ..Record::default()
+        };
+        for class in 0..6 {
+            let (prev, next) = self.oracle.sentinel_links(class);
+            record.prev[class] =
+                port_link(prev).expect("the Rust's sentinels link to chunks or sentinels");
+            record.next[class] =
+                port_link(next).expect("the Rust's sentinels link to chunks or sentinels");
+        }
+        record
+    }
+
+    /// What differs in the word at an index.
+    #[inline]
+    fn word_difference(&self, index: u32) -> Option<String> {
+        let given = self.memory[index as usize];
+        let rust = self.oracle.word(index);
+        if !self.is_link[index as usize] {
+            return (rust != given)
+                .then(|| format!("word {index} differs: {rust:#x} wanted, {given:#x} given"));
+        }
+        let (prev, next) = self.oracle.links(index);
+        let halves = port_link(prev).zip(port_link(next));
+        let wanted = halves.map(|(prev, next)| (next as u32) << 16 | prev as u32);
+        (wanted != Some(given))
+            .then(|| format!("link word {index} differs: {prev}/{next} wanted, {given:#x} given"))
+    }
+}
+
+/// A word that looks like a header, a footer, a guard or links; or any.
+pub fn misleading(numbers: &mut Numbers) -> u32 {
+    match numbers.below(4) {
+        0 => numbers.below(256),
+        1 => 8 * numbers.within(2, 80) + numbers.below(4),
+        2 => numbers.below(64) << 16 | numbers.below(64),
+        _ => numbers.next() as u32,
+    }
+}

@@ -1,0 +1,461 @@
+//! The comparison with the Rust at scale: the proved library, linked as C links it, and the oracle in one process.
+//!
+//!     compare [SECONDS]
+//!
+//! Every short history on tiny heaps, frees in every order and heaps of every length up to 4,001 are run whole; random histories, and
+//! damage to the heaps that they leave, fill the rest of the seconds (110 if not said). A difference is shown by the
+//! smallest history that could be found, and ends the run with status 1. docs/ORACLE.md says what the Rust is asked and what it
+//! is not; compare-parts/pair.rs what is compared; compare-parts/audit.rs is the audit that the proved one is compared with.
+
+#[path = "compare-parts/audit.rs"]
+mod audit;
+#[path = "compare-parts/damage.rs"]
+mod damage;
+#[path = "compare-parts/numbers.rs"]
+mod numbers;
+#[path = "compare-parts/pair.rs"]
+mod pair;
+#[path = "compare-parts/port.rs"]
+mod port;
+
+use damage::State;
+use numbers::Numbers;
+use pair::{History, Pair, Step, LARGEST_SIZE};
+use port::{Record, Reply};
+use std::process::exit;
+use std::time::{Duration, Instant};
+
+/// Lengths at which something changes: classes, the cache's slack, the least chunk.
+const EDGES: [u32; 12] = [16, 24, 32, 40, 64, 128, 256, 504, 512, 520, 536, 544];
+
+/// The step that makes a heap of so many words.
+fn making(words: u32) -> Step {
+    Step::Make { lent: words, words }
+}
+
+/// What has been compared so far.
+struct Comparison {
+    pair: Pair,
+    /// Audits that said yes and no, alike on both sides.
+    sound: u64,
+    damaged: u64,
+    /// Calls on the states that were audited.
+    calls: u64,
+}
+
+impl Comparison {
+    /// Play a history. A difference is shown with the fewest steps, and is the end.
+    fn play(&mut self, name: &str, history: &History) {
+        if self.pair.play(history).is_err() {
+            let least = self.shrunk(history);
+            eprintln!(
+                "compare: {name}: Rust and port differ\n{}",
+                self.pair.tell(&least)
+            );
+            exit(1);
+        }
+    }
+
+    /// A history that still shows a difference, from which no step can be left out.
+    fn shrunk(&mut self, history: &History) -> History {
+        let mut least = history.clone();
+        if let Err((at, _)) = self.pair.play(&least) {
+            least.steps.truncate(at + 1);
+        }
+        let mut run = least.steps.len();
+        while run > 0 {
+            let before = least.steps.len();
+            self.leave_out(&mut least, run);
+            // Once more with single steps as long as that helps: fewer asks give other ranks.
+            if run > 1 || least.steps.len() == before {
+                run /= 2;
+            }
+        }
+        least
+    }
+
+    /// Leave out every run of so many steps without which there still is a difference.
+    fn leave_out(&mut self, least: &mut History, run: usize) {
+        let mut from = 0;
+        while from < least.steps.len() {
+            let mut shorter = least.clone();
+            let to = (from + run).min(least.steps.len());
+            shorter.steps.drain(from..to);
+            if self.pair.play(&shorter).is_err() {
+                *least = shorter;
+            } else {
+                from += run;
+            }
+        }
+    }
+
+    /// Every history of up to so many requests: asks of these sizes, and all frees.
+    fn every_history(&mut self, words: u32, sizes: &[u32], depth: usize) {
+        let mut history = History {
+            words,
+            fill: words as u64,
+            steps: vec![making(words)],
+        };
+        self.extend(&mut history, sizes, depth);
+    }
+
+    /// Play a history, and every longer one that begins with it.
+    fn extend(&mut self, history: &mut History, sizes: &[u32], depth: usize) {
+        self.play("every short history", history);
+        if depth == 0 {
+            return;
+        }
+        let frees = (0..self.pair.live_count()).map(Step::Free);
+        for step in sizes.iter().map(|size| Step::Ask(*size)).chain(frees) {
+            history.steps.push(step);
+            self.extend(history, sizes, depth - 1);
+            history.steps.pop();
+        }
+    }
+
+    /// Five payloads of every choice of these sizes, freed in every order, and asked for again.
+    fn every_order(&mut self, sizes: [u32; 3]) {
+        for choice in 0..3usize.pow(5) {
+            let asks: Vec<Step> = (0..5)
+                .map(|at| Step::Ask(sizes[choice / 3usize.pow(at) % 3]))
+                .collect();
+            for order in 0..120 {
+                let ranks = [order % 5, order / 5 % 4, order / 20 % 3, order / 60 % 2, 0];
+                let mut steps = vec![making(65)];
+                steps.extend(&asks);
+                steps.push(Step::Write(order, 1 + order as u64));
+                steps.extend(ranks.map(Step::Free));
+                steps.extend([Step::Ask(28), Step::Ask(60), Step::Mark(1)]);
+                self.play(
+                    "every order of frees",
+                    &History {
+                        words: 65,
+                        fill: 7,
+                        steps,
+                    },
+                );
+            }
+        }
+    }
+
+    /// Every accepted length up to 4,001, and of the longer ones every sixteenth up to the Rust's longest: the heap's own size and
+    /// what is near it, and a few requests.
+    fn every_length(&mut self) {
+        for words in (5..4001)
+            .step_by(2)
+            .chain((4023..=oracle::MOST_WORDS).step_by(32))
+        {
+            let own = 4 * words - 8;
+            let asks = [own + 1, own, own - own / 3, 12].map(Step::Ask);
+            let steps = [making(words)]
+                .into_iter()
+                .chain(asks)
+                .chain([Step::Free(0), Step::Free(1)]);
+            let history = History {
+                words,
+                fill: 0,
+                steps: steps.collect(),
+            };
+            self.play("every length", &history);
+        }
+    }
+
+    /// A random history, and damage to the heap that it leaves.
+    fn random(&mut self, seed: u64) {
+        let mut numbers = Numbers::new(seed);
+        let history = random_history(&mut numbers);
+        self.play(&format!("random history {seed}"), &history);
+        let times = if history.words < 2000 { 60 } else { 6 };
+        let state = self.pair.state();
+        for _ in 0..times {
+            self.damage(seed, &state, &mut numbers);
+        }
+    }
+
+    /// Damage a sound state in one place or two, and let both audits and the calls judge it.
+    fn damage(&mut self, seed: u64, state: &State, numbers: &mut Numbers) {
+        let mut damaged = state.clone();
+        let mut ways = vec![damaged.damage(numbers)];
+        if numbers.one_in(2) {
+            ways.push(damaged.damage(numbers));
+        }
+        if let Err(what) = self.judge(&damaged, numbers) {
+            eprintln!(
+                "compare: random history {seed}, then damage to {}: {what}",
+                ways.join(" and to ")
+            );
+            show(&damaged);
+            exit(1);
+        }
+    }
+
+    /// Whether the two audits agree on a state, and the calls do what a sound or a damaged one asks of them.
+    fn judge(&mut self, state: &State, numbers: &mut Numbers) -> Result<(), String> {
+        let sound = audit::sound(&state.record, &state.words);
+        let said = port::audit(&state.record, &state.words);
+        if said != sound as u32 {
+            return Err(format!(
+                "the proved audit says {said}, the plain one {sound}"
+            ));
+        }
+        if sound {
+            self.sound += 1;
+        } else {
+            self.damaged += 1;
+        }
+        let size = numbers.pick(&[1, 12, 100, 508, 600]);
+        let payload = 8 * numbers.below(state.words.len() as u32 / 2 + 1) + 4;
+        self.judge_call(state, sound, &[0, 3], |r, w| port::hand_out(r, w, size))?;
+        self.judge_call(state, sound, &[0, 4], |r, w| port::take_back(r, w, payload))?;
+        if numbers.one_in(8) {
+            self.judge_call(state, true, &[1], |r, w| port::hand_out(r, w, 0))?;
+            self.judge_call(state, true, &[2], |r, w| {
+                port::hand_out(r, w, LARGEST_SIZE + 1)
+            })?;
+        }
+        Ok(())
+    }
+
+    /// Whether a call on a state answers one of these numbers if it may be served, else 5; and leaves a sound heap after 0, and
+    /// every byte as it was after anything else.
+    fn judge_call(
+        &mut self,
+        state: &State,
+        served: bool,
+        numbers: &[u32],
+        call: impl Fn(&mut Record, &mut [u32]) -> Reply,
+    ) -> Result<(), String> {
+        self.calls += 1;
+        let mut after = state.clone();
+        let reply = call(&mut after.record, &mut after.words);
+        let wanted = if served { numbers } else { &[5] };
+        if !wanted.contains(&reply.number) || (reply.number != 0 && reply.value != 0) {
+            return Err(format!(
+                "a call answers {reply} where one of {wanted:?} is right"
+            ));
+        }
+        if reply.number != 0 && after != *state {
+            return Err(format!("a call answers {reply} and changes something"));
+        }
+        if reply.number == 0 && !audit::sound(&after.record, &after.words) {
+            return Err(format!("a call answers {reply} and leaves no sound heap"));
+        }
+        Ok(())
+    }
+
+    /// The comparison itself is sharp: a change of any field, or of any word, is seen as a difference.
+    fn is_sharp(&mut self) {
+        let steps = [
+            making(65),
+            Step::Ask(12),
+            Step::Ask(60),
+            Step::Ask(12),
+            Step::Free(0),
+            Step::Free(0),
+        ];
+        let history = History {
+            words: 65,
+            fill: 3,
+            steps: steps.to_vec(),
+        };
+        self.play("a short history", &history);
+        for index in 0..65 + 8 {
+            self.pair.memory[index] ^= 1;
+            assert!(
+                self.pair.difference().is_some(),
+                "a change of word {index} is not seen"
+            );
+            self.pair.memory[index] ^= 1;
+        }
+        let record = self.pair.record;
+        for change in changes() {
+            change(&mut self.pair.record);
+            assert!(
+                self.pair.difference().is_some(),
+                "a change of the record is not seen"
+            );
+            self.pair.record = record;
+        }
+        assert!(
+            self.pair.difference().is_none(),
+            "a difference is seen where there is none"
+        );
+    }
+
+    /// Say what has been done.
+    fn done(&self, what: &str) {
+        println!("compare: {what}: {} requests", self.pair.requests);
+    }
+
+    /// The longest heap of all, which is too long for the Rust: made, used and found sound.
+    fn longest(&mut self) {
+        let mut state = State {
+            record: Record::default(),
+            words: vec![0; 65_529],
+        };
+        let made = port::make(&mut state.record, &mut state.words, 65_529);
+        assert_eq!(
+            (made.number, made.value, made.compared),
+            (0, 0, 0),
+            "65,529 words are made"
+        );
+        let mut numbers = Numbers::new(65_529);
+        for _ in 0..50 {
+            let size = numbers.within(1, 3000);
+            let reply = port::hand_out(&mut state.record, &mut state.words, size);
+            assert_eq!(reply.number, 0, "there is room for {size} bytes");
+            if numbers.one_in(2) {
+                port::take_back(&mut state.record, &mut state.words, reply.value);
+            }
+            if let Err(what) = self.judge(&state, &mut numbers) {
+                eprintln!("compare: 65,529 words: {what}");
+                exit(1);
+            }
+        }
+    }
+}
+
+/// One change of each field of a record.
+fn changes() -> Vec<Box<dyn Fn(&mut Record)>> {
+    let mut all: Vec<Box<dyn Fn(&mut Record)>> = vec![
+        Box::new(|r| r.words ^= 1),
+        Box::new(|r| r.in_use ^= 8),
+        Box::new(|r| r.peak ^= 8),
+        Box::new(|r| r.high ^= 8),
+        Box::new(|r| r.cached ^= 1),
+        Box::new(|r| r.fresh = !r.fresh),
+    ];
+    for class in 0..6 {
+        all.push(Box::new(move |r| r.prev[class] ^= 1));
+        all.push(Box::new(move |r| r.next[class] ^= 1));
+    }
+    all
+}
+
+/// Show a state: its record, and its words if they are few.
+fn show(state: &State) {
+    eprintln!("{:?}", state.record);
+    if state.words.len() < 200 {
+        eprintln!("{:?}", state.words);
+    }
+}
+
+/// A random history: a length, a filling, and steps in spells of growing, shrinking and both.
+fn random_history(numbers: &mut Numbers) -> History {
+    let most = numbers.pick(&[41, 41, 129, 129, 129, 1101, 1101, 6001, 16_383, 65_527]);
+    let words = if numbers.one_in(10) {
+        most
+    } else {
+        numbers.within(2, most / 2) * 2 + 1
+    };
+    let mut steps = vec![making(words)];
+    let length = numbers.within(20, 700);
+    let mut wish = 50;
+    while (steps.len() as u32) < length {
+        if numbers.one_in(60) {
+            wish = numbers.pick(&[10, 35, 50, 55, 65, 90]);
+        }
+        steps.push(random_step(numbers, words, wish));
+    }
+    History {
+        words,
+        fill: numbers.pick(&[0, 1, 1, 2, 3]),
+        steps,
+    }
+}
+
+/// A random step; so many of a hundred are frees.
+fn random_step(numbers: &mut Numbers, words: u32, wish: u32) -> Step {
+    match numbers.below(100) {
+        0 if numbers.one_in(4) => random_making(numbers, words),
+        0 => Step::Mark(numbers.below(4)),
+        1 => Step::FreeAt(numbers.pick(&[0, 4, 20, u32::MAX, 4 * words - 4, 4 * words])),
+        2 => Step::FreeAt(numbers.below(4 * words + 8)),
+        3..=9 => Step::Write(numbers.next() as u32, numbers.next()),
+        _ if numbers.below(100) < wish => Step::Free(numbers.next() as u32),
+        _ => Step::Ask(random_size(numbers, words)),
+    }
+}
+
+/// Making again: the same words, fewer, or lengths that are refused.
+fn random_making(numbers: &mut Numbers, words: u32) -> Step {
+    match numbers.below(5) {
+        0 => making(numbers.below(5)),
+        1 => making(numbers.within(2, words / 2) * 2),
+        2 => making(65_531),
+        3 => Step::Make {
+            lent: words,
+            words: numbers.pick(&[words - 2, words + 2, 65_529, u32::MAX]),
+        },
+        _ => making(numbers.within(2, words / 2) * 2 + 1),
+    }
+}
+
+/// A size to ask for: at the limits, at an edge, near the heap's own, anything up to it, or small.
+fn random_size(numbers: &mut Numbers, words: u32) -> u32 {
+    match numbers.below(40) {
+        0 => numbers.pick(&[
+            0,
+            LARGEST_SIZE,
+            LARGEST_SIZE - 1,
+            LARGEST_SIZE + 1,
+            u32::MAX,
+        ]),
+        1 => numbers.next() as u32,
+        2 => 4 * words - numbers.below(20),
+        3 | 4 => numbers.within(1, 4 * words),
+        5..=9 => numbers.within(480, 1100),
+        10..=20 => numbers.pick(&EDGES) - numbers.below(14),
+        21..=24 => numbers.within(1, 300),
+        _ => numbers.within(1, 60),
+    }
+}
+
+/// The seconds that the command line asks for.
+fn seconds() -> u64 {
+    match std::env::args().nth(1).map(|word| word.parse()) {
+        None => 110,
+        Some(Ok(seconds)) => seconds,
+        Some(Err(_)) => {
+            eprintln!("usage: compare [SECONDS]");
+            exit(2)
+        }
+    }
+}
+
+/// Compare, and say how much was compared.
+fn main() {
+    let end = Instant::now() + Duration::from_secs(seconds());
+    let mut all = Comparison {
+        pair: Pair::only(),
+        sound: 0,
+        damaged: 0,
+        calls: 0,
+    };
+    all.is_sharp();
+    all.longest();
+    for words in [5, 7, 9, 11, 13, 17, 21] {
+        all.every_history(words, &[12, 20, 28], 7);
+    }
+    all.done("every history of up to seven requests on 5 to 21 words");
+    all.every_order([12, 20, 28]);
+    all.done("and five payloads freed in every order");
+    all.every_length();
+    all.done("and heaps of every length up to 4,001 words, and of some up to 65,527");
+    let whole = all.pair.requests;
+    let mut histories = 0;
+    while histories < 100 || Instant::now() < end {
+        histories += 1;
+        all.random(histories);
+    }
+    println!(
+        "compare: {} requests put to Rust and port, {} of them in {histories} random histories, no difference; {} states audited alike, \
+         {} sound and {} damaged, with {} calls on them",
+        all.pair.requests,
+        all.pair.requests - whole,
+        all.sound + all.damaged,
+        all.sound,
+        all.damaged,
+        all.calls
+    );
+}
