@@ -19,7 +19,7 @@ LINES = 10_000  # lines of the random trace
 FIRST = 6_000  # of these, on the largest heap
 SEED = 20
 
-MAKE, HAND_OUT, TAKE_BACK = range(3)
+MAKE, HAND_OUT, TAKE_BACK, AUDIT = range(4)  # the audit is no frame of a trace, only a call to be counted
 
 WHOLE = (
     b"0000000021\n010000000D\n010000000C\n0200000004\n0100000014\n0200000004\n0200000004\n020000001C\n01FFFFFFFF\n"
@@ -123,10 +123,10 @@ def calls(requests, wanted):
 
 
 def crowd(chunks, every_other):
-    """Fill a heap with so many small chunks, free every other one if asked; the last two calls hand out 40 and take them back."""
+    """Fill a heap with so many small chunks, free every other one if asked; the last three calls audit, hand out 40, take them back."""
     lines = [call(MAKE, 0, model.TRACE_WORDS)]
     lines += [call(HAND_OUT, slot, 12) for slot in range(chunks)]
     if every_other:
         lines += [call(TAKE_BACK, slot, 0) for slot in range(0, chunks, 2)]
-    lines += [call(HAND_OUT, chunks, 40), call(TAKE_BACK, chunks, 0)]
+    lines += [call(AUDIT, 0, 0), call(HAND_OUT, chunks, 40), call(TAKE_BACK, chunks, 0)]
     return b"".join(lines)

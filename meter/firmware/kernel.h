@@ -21,6 +21,9 @@ struct answer kernel_make(uint32_t words);
 struct answer kernel_hand_out(uint32_t size);
 struct answer kernel_take_back(uint32_t payload);
 
+/* the audit alone: answer 0 for sound, 5 for damaged, 7 where a heap has none */
+struct answer kernel_audit(void);
+
 /* the word at an offset that was handed out */
 uint32_t *kernel_word(uint32_t offset);
 

@@ -43,6 +43,11 @@ struct answer kernel_take_back(uint32_t payload)
     return (struct answer){0, 0, 0};
 }
 
+struct answer kernel_audit(void)
+{
+    return (struct answer){7, 0, 0};
+}
+
 uint32_t *kernel_word(uint32_t offset)
 {
     return (uint32_t *)offset;

@@ -26,6 +26,11 @@ struct answer kernel_take_back(uint32_t payload)
     return (struct answer){0, word, 0};
 }
 
+struct answer kernel_audit(void)
+{
+    return (struct answer){7, 0, 0};
+}
+
 uint32_t *kernel_word(uint32_t offset)
 {
     word = offset;

@@ -58,6 +58,11 @@ struct answer kernel_take_back(uint32_t payload)
     return (struct answer){reply.number, reply.value, reply.compared};
 }
 
+struct answer kernel_audit(void)
+{
+    return (struct answer){lischemur_audit(record, heap, lent) ? 0 : 5, 0, 0};
+}
+
 uint32_t *kernel_word(uint32_t offset)
 {
     return heap + offset / 4;

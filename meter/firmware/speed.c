@@ -1,6 +1,6 @@
 /* Counts the instructions of each call, with whichever heap is linked in.
  *
- * The file `calls` has a call a line, in digits: two of kind (00 make, 01 hand out, 02 take back), four of a slot, eight of a
+ * The file `calls` has a call a line, in digits: two of kind (00 make, 01 hand out, 02 take back, 03 audit), four of a slot, eight of a
  * number (words, bytes). A slot holds what was handed out until it is taken back, so that the same calls suit any heap. The
  * file `counts` gets a line a call: two digits of answer, eight of instructions.
  *
@@ -53,6 +53,8 @@ int main(void)
             COUNTED(ticks, a = kernel_hand_out(number));
             used[slot] = a.number == 0;
             slots[slot] = a.value;
+        } else if (kind == 3) {
+            COUNTED(ticks, a = kernel_audit());
         } else if (used[slot]) {
             COUNTED(ticks, a = kernel_take_back(slots[slot]));
             used[slot] = 0;
