@@ -1,0 +1,99 @@
+// The kernel's door: what firmware links (include/lischemur.h declares it for C).
+//
+// Making, handing out and taking back change a record where it lies; the others take it by value, as the library's own calls do. Each
+// agrees with the call of crate `heap` that it stands for, and accepts any record, any words and any number.
+//
+//     reply    an answer as document 01's three numbers
+//     plain    the calls by value that the doors go to
+ghost use mathlib.Core.Path.{_≡_};
+ghost use Rattle.words.specs.Choice.{bit};
+ghost use Rattle.rules.specs.Demands.{hand, back};
+ghost use Rattle.heap.specs.Seen.{seen, base};
+ghost use Rattle.heap.specs.Mark.{markOf};
+ghost use Rattle.heap.specs.Answer.{soundAt};
+ghost use Rattle.door.specs.Reply.{replied, markingBy, makeOver};
+
+mod plain;
+mod reply;
+
+use heap::Record;
+use plain::hand_out_plain;
+use plain::make_over;
+use plain::take_back_plain;
+pub use reply::Marking;
+pub use reply::Replied;
+pub use reply::Reply;
+use reply::marking_of;
+
+// Makes a heap of the whole slice, which is to have `words` words. A 6 keeps the record.
+#[no_mangle]
+pub extern "C" fn lischemur_make(rec: &mut Record, heap: &mut [u32], words: u32) -> Reply
+    ensures { λ r. ⌜ replied r (seen (now (rec .exit)) (now (heap .exit))) ≡ makeOver (seen (now (rec .entry)) (now (heap .entry))) words ⌝ }
+{
+    let out = make_over(*rec, heap, words);
+    *rec = out.rec;
+    out.reply
+}
+
+// Hands out a payload of at least `size` bytes.
+#[no_mangle]
+pub extern "C" fn lischemur_hand_out(rec: &mut Record, heap: &mut [u32], size: u32) -> Reply
+    ensures { λ r. ⌜ replied r (seen (now (rec .exit)) (now (heap .exit))) ≡ hand base 65529 1 (seen (now (rec .entry)) (now (heap .entry))) size ⌝ }
+{
+    let out = hand_out_plain(*rec, heap, size);
+    *rec = out.rec;
+    out.reply
+}
+
+// Takes back the payload that begins at this offset.
+#[no_mangle]
+pub extern "C" fn lischemur_take_back(rec: &mut Record, heap: &mut [u32], payload: u32) -> Reply
+    ensures { λ r. ⌜ replied r (seen (now (rec .exit)) (now (heap .exit))) ≡ back base 65529 1 (seen (now (rec .entry)) (now (heap .entry))) payload ⌝ }
+{
+    let out = take_back_plain(*rec, heap, payload);
+    *rec = out.rec;
+    out.reply
+}
+
+// Whether the record and these words are sound: 1 or 0.
+#[no_mangle]
+pub extern "C" fn lischemur_audit(rec: Record, heap: &[u32]) -> u32
+    ensures { λ r. ⌜ r ≡ bit (soundAt (seen rec (now (heap .entry)))) ⌝ }
+{
+    let sound = rec.audit(heap);
+    if sound { 1 } else { 0 }
+}
+
+// The mark, if high water has risen, and the record with its flag off.
+#[no_mangle]
+pub extern "C" fn lischemur_mark(rec: Record, stacklets: u32) -> Marking
+    ensures { λ r. ⌜ r ≡ markingBy (markOf rec stacklets) ⌝ }
+{
+    let marked = rec.mark(stacklets);
+    let mark = marked.mark;
+    marking_of(mark, marked.rec)
+}
+
+// Bytes in use.
+#[no_mangle]
+pub extern "C" fn lischemur_in_use(rec: Record) -> u32
+    ensures { λ r. ⌜ r ≡ rec .«in_use» ⌝ }
+{
+    rec.in_use()
+}
+
+// The most bytes that were in use.
+#[no_mangle]
+pub extern "C" fn lischemur_peak(rec: Record) -> u32
+    ensures { λ r. ⌜ r ≡ rec .peak ⌝ }
+{
+    rec.peak()
+}
+
+// High water: the largest end of a chunk that was handed out.
+#[no_mangle]
+pub extern "C" fn lischemur_high_water(rec: Record) -> u32
+    ensures { λ r. ⌜ r ≡ rec .high ⌝ }
+{
+    rec.high_water()
+}

@@ -1,0 +1,64 @@
+// The calls by value, with replies for answers: what stands behind each door.
+//
+// The doors have no branch, so that one walk proves them all; whatever is to be decided is decided here.
+ghost use mathlib.Core.Path.{_≡_};
+ghost use Rattle.rules.specs.Demands.{hand, back};
+ghost use Rattle.rules.specs.Making.{acceptedᵇ};
+ghost use Rattle.heap.specs.Seen.{seen, base};
+ghost use Rattle.door.specs.Reply.{replied, makeOver};
+use super::reply::Replied;
+use super::reply::in_numbers;
+use heap::Answer;
+use heap::Out;
+use heap::Record;
+use words::ByteOffset;
+
+// Handing out.
+pub(crate) fn hand_out_plain(rec: Record, heap: &mut [u32], size: u32) -> Replied
+    ensures { λ q. ⌜ replied (q .reply) (seen (q .rec) (now (heap .exit))) ≡ hand base 65529 1 (seen rec (now (heap .entry))) size ⌝ }
+{
+    let out = rec.hand_out(heap, size);
+    in_numbers(out)
+}
+
+// Taking back.
+pub(crate) fn take_back_plain(rec: Record, heap: &mut [u32], payload: u32) -> Replied
+    ensures { λ q. ⌜ replied (q .reply) (seen (q .rec) (now (heap .exit))) ≡ back base 65529 1 (seen rec (now (heap .entry))) payload ⌝ }
+{
+    let out = rec.take_back(heap, ByteOffset(payload));
+    in_numbers(out)
+}
+
+// Making over a record that is there: a refusal hands it back as it was, where `Record::make` would hand back the empty one.
+pub(crate) fn make_over(rec: Record, heap: &mut [u32], words: u32) -> Replied
+    ensures { λ q. ⌜ replied (q .reply) (seen (q .rec) (now (heap .exit))) ≡ makeOver (seen rec (now (heap .entry))) words ⌝ }
+{
+    if words as usize != heap.len() {
+        return in_numbers(Out {
+            answer: Answer::BadLength,
+            rec,
+        });
+    }
+    if !accepted(words) {
+        return in_numbers(Out {
+            answer: Answer::BadLength,
+            rec,
+        });
+    }
+    let out = Record::make(heap);
+    in_numbers(out)
+}
+
+// Whether a heap may have so many words: an odd count, 5 to 65,529.
+fn accepted(words: u32) -> bool
+    ensures { λ r. ⌜ r ≡ acceptedᵇ 65529 words ⌝ }
+{
+    let n = words as usize;
+    if n < Record::LEAST_WORDS {
+        return false;
+    }
+    if Record::MOST_WORDS < n {
+        return false;
+    }
+    n % 2 == 1
+}

@@ -1,0 +1,94 @@
+// Replies: what the heap's answers are to a caller in C. No enum crosses the door, so an answer is document 01's three numbers.
+//
+// Contracts cite specs/Reply.antt.
+ghost use mathlib.Core.Path.{_≡_};
+ghost use Rattle.door.specs.Reply.{threeOf, replyOf, inNumbers, markingOf};
+use heap::Answer;
+use heap::Mark;
+use heap::Out;
+use heap::Record;
+
+// Document 01's numbers of an answer.
+#[repr(C)]
+pub struct Reply {
+    // 0 done, 1 zero size, 2 too large, 3 no fit, 4 not live, 5 damaged, 6 bad length
+    pub number: u32,
+    // the payload's offset for a handout that is done, else 0
+    pub value: u32,
+    // how many free chunks were compared
+    pub compared: u32,
+}
+
+// A reply, and the record after the call.
+pub struct Replied {
+    pub reply: Reply,
+    pub rec: Record,
+}
+
+// What the mark says, and the record with its flag off.
+#[repr(C)]
+pub struct Marking {
+    // high water less the stacks' share; 0 where nothing changed
+    pub mark: i64,
+    // 1 if high water has risen since the mark was last read, else 0
+    pub changed: u32,
+    pub rec: Record,
+}
+
+impl Reply {
+    // The reply of three numbers.
+    fn of(number: u32, value: u32, compared: u32) -> Reply
+        ensures { λ r. ⌜ r ≡ threeOf number value compared ⌝ }
+    {
+        Reply {
+            number,
+            value,
+            compared,
+        }
+    }
+}
+
+// The three numbers of an answer.
+fn reply_of(a: Answer) -> Reply
+    ensures { λ r. ⌜ r ≡ replyOf a ⌝ }
+{
+    match a {
+        Answer::Done(p, c) => Reply::of(0, p.0, c),
+        Answer::ZeroSize => Reply::of(1, 0, 0),
+        Answer::TooLarge => Reply::of(2, 0, 0),
+        Answer::NoFit(c) => Reply::of(3, 0, c),
+        Answer::NotLive => Reply::of(4, 0, 0),
+        Answer::Damaged => Reply::of(5, 0, 0),
+        Answer::BadLength => Reply::of(6, 0, 0),
+    }
+}
+
+// An answer in numbers, beside the record after the call.
+pub(crate) fn in_numbers(out: Out) -> Replied
+    ensures { λ r. ⌜ r ≡ inNumbers out ⌝ }
+{
+    let answer = out.answer;
+    let rec = out.rec;
+    Replied {
+        reply: reply_of(answer),
+        rec,
+    }
+}
+
+// The mark in plain numbers, beside a record.
+pub(crate) fn marking_of(m: Mark, rec: Record) -> Marking
+    ensures { λ r. ⌜ r ≡ markingOf m rec ⌝ }
+{
+    match m {
+        Mark::Unchanged => Marking {
+            mark: 0,
+            changed: 0,
+            rec,
+        },
+        Mark::At(n) => Marking {
+            mark: n,
+            changed: 1,
+            rec,
+        },
+    }
+}
