@@ -24,6 +24,13 @@ struct answer kernel_take_back(uint32_t payload);
 /* the audit alone: answer 0 for sound, 5 for damaged, 7 where a heap has none */
 struct answer kernel_audit(void);
 
+/* the counters: bytes in use, the most that were, high water, and the mark with one stacklet, 1 if there is none */
+struct figures {
+    uint32_t in_use, peak, high;
+    int64_t mark;
+};
+struct figures kernel_figures(void);
+
 /* the word at an offset that was handed out */
 uint32_t *kernel_word(uint32_t offset);
 

@@ -3,7 +3,7 @@
  * With MEASURE_STACK each call is made on a painted stack; without, it is the bare call. */
 #include "kernel.h"
 #include "board.h"
-#include "lischemur.h"
+#include <lischemur.h>
 
 /* the heap begins at 4 mod 8, so that payloads lie at multiples of 8 */
 static uint32_t memory[WORDS + 1] __attribute__((aligned(8)));
@@ -61,6 +61,13 @@ struct answer kernel_take_back(uint32_t payload)
 struct answer kernel_audit(void)
 {
     return (struct answer){lischemur_audit(record, heap, lent) ? 0 : 5, 0, 0};
+}
+
+struct figures kernel_figures(void)
+{
+    lischemur_marking m = lischemur_mark(record, 1);
+    record = m.record;
+    return (struct figures){lischemur_in_use(record), lischemur_peak(record), lischemur_high_water(record), m.changed ? m.mark : 1};
 }
 
 uint32_t *kernel_word(uint32_t offset)
