@@ -3,13 +3,15 @@
 //!
 //! ```text
 //! checks      counting, failing, and numbers that look random
-//! fixed       layouts, the rules' whole run and entries, the incident, pointers, the mark
+//! crossing    the record's layout, answer numbers, the mark
+//! fixed       the rules' whole run and entries, the incident, refused frees, pointers
 //! sound       the rules' soundness, written again
 //! damage      damaged heaps: refused, and nothing changed
 //! histories   random histories, side by side with Hopter's heap.rs
 //! ```
 
 mod checks;
+mod crossing;
 mod damage;
 mod fixed;
 mod histories;
@@ -19,6 +21,7 @@ use checks::Checks;
 
 fn main() {
     let mut checks = Checks::new();
+    crossing::run(&mut checks);
     fixed::run(&mut checks);
     let damaged = damage::run(&mut checks);
     let requests = histories::run(&mut checks);

@@ -27,7 +27,7 @@ pub const fn accepted(words: usize) -> bool {
 #[repr(C, align(8))]
 pub struct Memory<const WORDS: usize> {
     /// Takes the first four bytes, so that the words start behind them.
-    before: u32,
+    _before: u32,
     /// The words to lend.
     words: [u32; WORDS],
 }
@@ -42,7 +42,7 @@ impl<const WORDS: usize> Memory<WORDS> {
     pub const fn new() -> Memory<WORDS> {
         let () = Self::ACCEPTED;
         Memory {
-            before: 0,
+            _before: 0,
             words: [0; WORDS],
         }
     }
