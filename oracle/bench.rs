@@ -62,6 +62,8 @@ struct Shape {
     asks: u32,
     size: u32,
     free_every: u32,
+    /// The last one is freed first, so that the first chunk is the cached one at the end.
+    backwards: bool,
 }
 
 /// Something that asks and frees: the port or the Rust.
@@ -110,10 +112,18 @@ fn made(words: u32) -> Heap {
 /// Bring a heap that was just made into a shape.
 fn bring(heap: &mut impl Requests, shape: &Shape) {
     let payloads: Vec<u32> = (0..shape.asks).map(|_| heap.ask(shape.size)).collect();
-    if shape.free_every > 0 {
-        for payload in payloads.iter().step_by(shape.free_every as usize) {
-            heap.free(*payload);
-        }
+    if shape.free_every == 0 {
+        return;
+    }
+    let mut frees: Vec<u32> = payloads
+        .into_iter()
+        .step_by(shape.free_every as usize)
+        .collect();
+    if shape.backwards {
+        frees.reverse();
+    }
+    for payload in frees {
+        heap.free(payload);
     }
 }
 
@@ -239,7 +249,7 @@ fn audit_ratio(name: &str, target: Option<f64>, shape: &Shape) -> Ratio {
         "the heap is sound"
     );
     ratio(
-        format!("{name}: {free} free and {used} used"),
+        format!("{name} ({free} free, {used} used)"),
         target,
         || {
             black_box(port::audit(black_box(&heap.record), black_box(&heap.words)));
@@ -324,8 +334,9 @@ The audit alone, `lischemur_audit`, over a plain loop that goes from header to h
 | Heap, by chunks | Audit over walk | Spread | Target |
 |---|---|---|---|
 {}
-The audit walks the tiling twice whole and a third time up to the cached chunk, follows each list both ways, and follows all lists once
-more for each window of 1,024 words. So free chunks cost more than used ones, and most where they are many beside few used:
+Where the time goes: the tiling is walked twice whole, once with all tests, and a third time with all tests up to the cached chunk, which is
+the last free one above; each list is followed once both ways, and once more for each of the 16 windows of 1,024 words. With few
+chunks, what does not depend on them (six lists, the marks, the record passed by value) outweighs the walk. So:
 
 | Heap, by chunks | Audit over walk | Spread |
 |---|---|---|
@@ -364,7 +375,7 @@ fn write_sections(text: &str) -> std::io::Result<()> {
 
 /// Where a ratio stands on the plot: a logarithmic scale from 1 to 10,000.
 fn place(ratio: f64) -> f64 {
-    320.0 + 140.0 * ratio.max(1.0).log10()
+    340.0 + 140.0 * ratio.max(1.0).log10()
 }
 
 /// A bar of the plot with its spread and its target.
@@ -379,13 +390,13 @@ fn bar(at: usize, ratio: &Ratio) -> String {
         )
     });
     format!(
-        "<text x=\"312\" y=\"{}\" text-anchor=\"end\">{}</text>\n\
-         <rect x=\"320\" y=\"{y}\" width=\"{:.1}\" height=\"18\" fill=\"#79a\"/>\n\
+        "<text x=\"332\" y=\"{}\" text-anchor=\"end\">{}</text>\n\
+         <rect x=\"340\" y=\"{y}\" width=\"{:.1}\" height=\"18\" fill=\"#79a\"/>\n\
          <path d=\"M{least:.1} {} H{most:.1}\" stroke=\"#000\"/>\n\
          <text x=\"{:.1}\" y=\"{}\">{:.1}</text>\n{target}",
         y + 13,
         ratio.name,
-        end - 320.0,
+        end - 340.0,
         y + 9,
         most.max(ratio.target.map_or(0.0, place)) + 6.0,
         y + 13,
@@ -410,7 +421,7 @@ fn plot(ratios: &[&Ratio]) -> String {
         })
         .concat();
     format!(
-        "<svg xmlns=\"http://www.w3.org/2000/svg\" width=\"940\" height=\"{}\" font-family=\"sans-serif\" font-size=\"12\">\n\
+        "<svg xmlns=\"http://www.w3.org/2000/svg\" width=\"960\" height=\"{}\" font-family=\"sans-serif\" font-size=\"12\">\n\
          <rect width=\"100%\" height=\"100%\" fill=\"#fff\"/>\n\
          <text x=\"10\" y=\"16\">Ratios: median as a bar, least to most as a line, targets in red (logarithmic scale)</text>\n\
          {scale}{bars}</svg>\n",
@@ -418,32 +429,38 @@ fn plot(ratios: &[&Ratio]) -> String {
     )
 }
 
-/// The audit on the states that have a target.
-fn audits() -> Vec<Ratio> {
-    let shape = |asks, size, free_every| Shape {
+/// A shape of the long heap; the last chunk freed, so the cached one, is the last of the heap unless it is brought backwards.
+fn long(asks: u32, size: u32, free_every: u32) -> Shape {
+    Shape {
         words: WORDS,
         asks,
         size,
         free_every,
-    };
+        backwards: false,
+    }
+}
+
+/// The audit on the states that have a target.
+fn audits() -> Vec<Ratio> {
     vec![
-        audit_ratio("about 2,000 free", Some(20.0), &shape(4000, 12, 2)),
-        audit_ratio("about 200 free", Some(4.0), &shape(4000, 12, 20)),
-        audit_ratio("nearly empty", Some(8.0), &shape(8, 100, 0)),
+        audit_ratio("about 2,000 free", Some(20.0), &long(4000, 12, 2)),
+        audit_ratio("about 200 free", Some(4.0), &long(4000, 12, 20)),
+        audit_ratio("nearly empty", Some(8.0), &long(8, 100, 0)),
     ]
 }
 
 /// The audit on states that have none.
 fn more_audits() -> Vec<Ratio> {
-    let shape = |asks, size, free_every| Shape {
-        words: WORDS,
-        asks,
-        size,
-        free_every,
+    let early = Shape {
+        backwards: true,
+        ..long(4000, 12, 20)
     };
     vec![
-        audit_ratio("few long chunks", None, &shape(400, 156, 2)),
-        audit_ratio("no free chunk but the rest", None, &shape(4000, 12, 0)),
+        audit_ratio("cached chunk first", None, &early),
+        audit_ratio("nothing cached", None, &long(4000, 12, 0)),
+        audit_ratio("few and longer", None, &long(400, 156, 2)),
+        audit_ratio("a tenth in use", None, &long(60, 100, 0)),
+        audit_ratio("just made", None, &long(0, 0, 0)),
     ]
 }
 
@@ -455,6 +472,7 @@ fn calls() -> Vec<Ratio> {
         asks,
         size: 12,
         free_every,
+        backwards: false,
     };
     vec![
         call_ratio("small: 33 words", &mut oracle, &shape(33, 0, 0), &[12, 20]),
