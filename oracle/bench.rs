@@ -19,13 +19,17 @@ use port::Record;
 use std::fs;
 use std::hint::black_box;
 use std::process::exit;
-use std::time::Instant;
+use std::thread::sleep;
+use std::time::{Duration, Instant};
 
 /// The words of the long heaps.
 const WORDS: u32 = 16_383;
 
 /// How often each ratio is measured.
-const REPEATS: usize = 15;
+const REPEATS: usize = 31;
+
+/// The pause between repeats: they should see the computer at different moments.
+const PAUSE: Duration = Duration::from_millis(60);
 
 /// Of how many spells of each side, taken in turns, a repeat keeps the fastest.
 const SPELLS: usize = 20;
@@ -36,6 +40,13 @@ const SPELL: f64 = 0.0005;
 /// The lines of docs/BENCHMARKS.md between which the figures stand.
 const BEGIN: &str = "<!-- oracle/bench: begin -->";
 const END: &str = "<!-- oracle/bench: end -->";
+
+/// How docs/BENCHMARKS.md begins if there is none.
+const INTRODUCTION: &str = "# What it costs
+
+Figures that were measured, how, and how to measure them again. Nothing here is proved.
+
+";
 
 /// A ratio measured several times.
 struct Ratio {
@@ -192,7 +203,10 @@ fn ratio(
 ) -> Ratio {
     let times = (times_of(&mut over), times_of(&mut under));
     let mut pairs: Vec<(f64, f64)> = (0..REPEATS)
-        .map(|_| fastest(&mut over, &mut under, times))
+        .map(|_| {
+            sleep(PAUSE);
+            fastest(&mut over, &mut under, times)
+        })
         .collect();
     pairs.sort_by(|a, b| (a.0 / a.1).total_cmp(&(b.0 / b.1)));
     let of = |at: usize| pairs[at].0 / pairs[at].1;
@@ -319,24 +333,24 @@ fn rows(ratios: &[Ratio]) -> String {
 fn sections(audits: &[Ratio], untargeted: &[Ratio], calls: &[Ratio]) -> String {
     format!(
         "{BEGIN}
-The figures of the two sections below are ratios of times on one computer, both sides optimised and measured in turns in one
-process: the median of {REPEATS} repeats, and the least and the most. A repeat keeps the fastest of {SPELLS} short spells of either side. This command measures them anew and writes them, and the plot, here:
+## The audit against one walk of the tiling
 
-    oracle/bench
+`oracle/bench` measures this section and the next and writes them here, with the plot. The figures are ratios of times on one computer,
+both sides optimised and measured in turns in one process: the median of {REPEATS} repeats, and the least and the most. A repeat keeps
+the fastest of {SPELLS} short spells of either side. Other work on the same core slows the audit and hardly the walk, which only waits for one
+header after the other: on a busy computer medians and spreads are higher.
 
 ![The ratios, with the targets](benchmarks.svg)
 
-## The audit against one walk of the tiling
-
-The audit alone, `lischemur_audit`, over a plain loop that goes from header to header of the same words and tests nothing. The heap has
-16,383 words.
+Here it is the audit alone, `lischemur_audit`, over a plain loop that goes from header to header of the same words and tests nothing. The
+heap has 16,383 words.
 
 | Heap, by chunks | Audit over walk | Spread | Target |
 |---|---|---|---|
 {}
-Where the time goes: the tiling is walked twice whole, once with all tests, and a third time with all tests up to the cached chunk, which is
-the last free one above; each list is followed once both ways, and once more for each of the 16 windows of 1,024 words. With few
-chunks, what does not depend on them (six lists, the marks, the record passed by value) outweighs the walk. So:
+Where the time goes: the tiling is walked twice whole, the first time with all tests, and a third time with all tests up to the cached
+chunk, which above is the last one freed, near the heap's end. Each list is followed once both ways, and once more for each of the 16
+windows of 1,024 words. With few chunks a fixed cost shows, which a heap just made has alone. States that tell these apart:
 
 | Heap, by chunks | Audit over walk | Spread |
 |---|---|---|
@@ -361,13 +375,13 @@ on the same states. Each of our calls audits the whole heap first, and the Rust'
 /// Put the sections where they belong in docs/BENCHMARKS.md, and leave the rest of it as it is.
 fn write_sections(text: &str) -> std::io::Result<()> {
     let path = "docs/BENCHMARKS.md";
-    let old = fs::read_to_string(path).unwrap_or_else(|_| "# Benchmarks\n\n".to_string());
+    let old = fs::read_to_string(path).unwrap_or_else(|_| INTRODUCTION.to_string());
     let (before, after) = match (old.find(BEGIN), old.find(END)) {
         (Some(begin), Some(end)) => (
             &old[..begin],
             old[end + END.len()..].trim_start_matches('\n'),
         ),
-        _ => old.split_at(old.find("\n\n").map_or(old.len(), |end| end + 2)),
+        _ => old.split_at(old.find("## ").unwrap_or(old.len())),
     };
     let gap = if after.is_empty() { "" } else { "\n" };
     fs::write(path, format!("{before}{text}{gap}{after}"))

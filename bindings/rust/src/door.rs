@@ -1,0 +1,123 @@
+//! The door: the archive's functions, as crate `door` exports them, and the types that cross.
+//!
+//! Nothing checks these lines against the Rattle source but the tests. A slice of it is a pointer and
+//! a length here. The layouts are asserted below when this crate is built.
+
+use core::mem::{align_of, offset_of, size_of};
+
+/// What the heap keeps between calls: plain data, and any contents are accepted.
+///
+/// Links 0 to 5 name the sentinels of the six lists; the header at word w has link w + 6.
+#[repr(C)]
+#[derive(Clone, Copy, Debug, PartialEq, Eq)]
+pub struct Record {
+    /// The prev link of each list's sentinel: its last chunk, or the sentinel itself.
+    pub prev: [u16; 6],
+    /// The next link of each list's sentinel: its first chunk, or the sentinel itself.
+    pub next: [u16; 6],
+    /// How many words the heap has; 0 before one is made.
+    pub words: u32,
+    /// The sum of used lengths, that of the cached chunk included.
+    pub in_use: u32,
+    /// The largest that sum has been.
+    pub peak: u32,
+    /// The largest end, in bytes, of a chunk that was handed out.
+    pub high: u32,
+    /// The cached chunk's link; 0 if there is none.
+    pub cached: u16,
+    /// Whether high water has risen since the mark was last read.
+    pub fresh: bool,
+}
+
+impl Record {
+    /// The record before a heap is made: all bytes zero, as static memory is at reset.
+    pub const EMPTY: Record = Record {
+        prev: [0; 6],
+        next: [0; 6],
+        words: 0,
+        in_use: 0,
+        peak: 0,
+        high: 0,
+        cached: 0,
+        fresh: false,
+    };
+}
+
+impl Default for Record {
+    fn default() -> Record {
+        Record::EMPTY
+    }
+}
+
+/// An answer as three numbers.
+#[repr(C)]
+pub(crate) struct Reply {
+    /// 0 done, else the refusal's number.
+    pub(crate) number: u32,
+    /// The payload's offset for a handout that is done, else 0.
+    pub(crate) value: u32,
+    /// How many free chunks were compared.
+    pub(crate) compared: u32,
+}
+
+/// What the mark says, and the record with its flag off.
+#[repr(C)]
+pub(crate) struct Marking {
+    /// High water less the stacks' share; 0 where nothing changed.
+    pub(crate) mark: i64,
+    /// 1 if high water has risen since the mark was last read, else 0.
+    pub(crate) changed: u32,
+    /// The record after the call.
+    pub(crate) rec: Record,
+}
+
+const _: () = assert!(size_of::<Record>() == 44 && align_of::<Record>() == 4);
+const _: () = assert!(offset_of!(Record, prev) == 0);
+const _: () = assert!(offset_of!(Record, next) == 12);
+const _: () = assert!(offset_of!(Record, words) == 24);
+const _: () = assert!(offset_of!(Record, in_use) == 28);
+const _: () = assert!(offset_of!(Record, peak) == 32);
+const _: () = assert!(offset_of!(Record, high) == 36);
+const _: () = assert!(offset_of!(Record, cached) == 40);
+const _: () = assert!(offset_of!(Record, fresh) == 42);
+
+const _: () = assert!(size_of::<Reply>() == 12 && align_of::<Reply>() == 4);
+const _: () = assert!(offset_of!(Reply, number) == 0);
+const _: () = assert!(offset_of!(Reply, value) == 4);
+const _: () = assert!(offset_of!(Reply, compared) == 8);
+
+const _: () = assert!(size_of::<Marking>() == 56);
+const _: () = assert!(offset_of!(Marking, mark) == 0);
+const _: () = assert!(offset_of!(Marking, changed) == 8);
+const _: () = assert!(offset_of!(Marking, rec) == 12);
+
+#[link(name = "door", kind = "static")]
+extern "C" {
+    /// Make a heap of all `len` words at `heap`; `words` must say the same number.
+    pub(crate) fn lischemur_make(rec: *mut Record, heap: *mut u32, len: usize, words: u32)
+        -> Reply;
+    /// Hand out a payload of at least `size` bytes.
+    pub(crate) fn lischemur_hand_out(
+        rec: *mut Record,
+        heap: *mut u32,
+        len: usize,
+        size: u32,
+    ) -> Reply;
+    /// Take back the payload that begins at this offset.
+    pub(crate) fn lischemur_take_back(
+        rec: *mut Record,
+        heap: *mut u32,
+        len: usize,
+        payload: u32,
+    ) -> Reply;
+    /// Whether the record and these words are sound: 1 or 0.
+    pub(crate) fn lischemur_audit(rec: Record, heap: *const u32, len: usize) -> u32;
+    /// The mark, if high water has risen, and the record with its flag off.
+    pub(crate) fn lischemur_mark(rec: Record, stacklets: u32) -> Marking;
+    /// Bytes in use.
+    pub(crate) fn lischemur_in_use(rec: Record) -> u32;
+    /// The most bytes that were in use.
+    pub(crate) fn lischemur_peak(rec: Record) -> u32;
+    /// The largest end of a chunk that was handed out.
+    pub(crate) fn lischemur_high_water(rec: Record) -> u32;
+}

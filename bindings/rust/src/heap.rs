@@ -1,0 +1,199 @@
+//! The heap: a record and lent words, and the calls on them.
+//!
+//! `hand_out` and `take_back` speak of offsets, as the rules do; `alloc` and `free` are the same calls
+//! in pointers. The words are held by address and not by reference: each payload pointer comes from
+//! that address, and no later call makes a reference over the words that would cut it off.
+
+use core::marker::PhantomData;
+use core::ptr::NonNull;
+
+use crate::door::{self, Record, Reply};
+use crate::refusal::Refusal;
+
+/// A payload's place: bytes from the start of the heap's words.
+#[derive(Clone, Copy, Debug, PartialEq, Eq, PartialOrd, Ord, Hash)]
+pub struct Offset(pub u32);
+
+/// An offset where no payload starts, for a pointer that is outside: a header stands at byte 0.
+const NOWHERE: Offset = Offset(0);
+
+/// A heap over words that are lent to it for `'a`.
+///
+/// No call locks anything: see the [crate's text](crate).
+#[derive(Debug)]
+pub struct Heap<'a> {
+    /// What the heap keeps between calls.
+    record: Record,
+    /// The address of the first word.
+    start: NonNull<u32>,
+    /// How many words are lent.
+    len: usize,
+    /// How many free chunks the last call compared.
+    compared: u32,
+    /// The words are borrowed, and nobody else has them.
+    words: PhantomData<&'a mut [u32]>,
+}
+
+// SAFETY: a heap is plain numbers and words that it alone has borrowed, as a `&mut [u32]` is.
+unsafe impl Send for Heap<'_> {}
+
+impl<'a> Heap<'a> {
+    /// Make a heap of all these words. `BadLength` unless there is an odd count of them, 5 to 65,529.
+    pub fn make(words: &'a mut [u32]) -> Result<Heap<'a>, Refusal> {
+        let mut heap = Heap::over(Record::EMPTY, words);
+        heap.make_again()?;
+        Ok(heap)
+    }
+
+    /// A heap that is there already, as [`into_parts`](Heap::into_parts) gave it or as memory kept it.
+    ///
+    /// Nothing is trusted: on a record and words that are no sound heap every call is refused.
+    pub fn over(record: Record, words: &'a mut [u32]) -> Heap<'a> {
+        Heap {
+            record,
+            len: words.len(),
+            start: NonNull::from(words).cast(),
+            compared: 0,
+            words: PhantomData,
+        }
+    }
+
+    /// The record and the words, for [`over`](Heap::over).
+    pub fn into_parts(self) -> (Record, &'a mut [u32]) {
+        // SAFETY: start and length are those of the `&'a mut [u32]` that `over` took, and `self`, which
+        // stood for it, is gone.
+        let words = unsafe { core::slice::from_raw_parts_mut(self.start.as_ptr(), self.len) };
+        (self.record, words)
+    }
+
+    /// Begin anew in the same words: nothing is live any more, and all counters are 0. If it is
+    /// refused the heap in use goes on.
+    pub fn make_again(&mut self) -> Result<(), Refusal> {
+        // A length beyond 32 bits is refused like any other that is too long.
+        let words = u32::try_from(self.len).unwrap_or(u32::MAX);
+        // SAFETY: the record is borrowed here, start and length are those of words borrowed for `'a`,
+        // and the archive's function accepts any contents of both.
+        let reply =
+            unsafe { door::lischemur_make(&mut self.record, self.start.as_ptr(), self.len, words) };
+        self.answered(reply).map(|_| ())
+    }
+
+    /// Hand out a payload of at least `size` bytes. `ZeroSize`, `TooLarge`, `Damaged` and `NoFit` are
+    /// tested in this order.
+    pub fn hand_out(&mut self, size: u32) -> Result<Offset, Refusal> {
+        // SAFETY: as in `make_again`; any size is accepted.
+        let reply = unsafe {
+            door::lischemur_hand_out(&mut self.record, self.start.as_ptr(), self.len, size)
+        };
+        self.answered(reply).map(Offset)
+    }
+
+    /// Take back a payload. `Damaged` and `NotLive` are tested in this order; any offset may be given.
+    pub fn take_back(&mut self, payload: Offset) -> Result<(), Refusal> {
+        // SAFETY: as in `make_again`; any offset is accepted.
+        let reply = unsafe {
+            door::lischemur_take_back(&mut self.record, self.start.as_ptr(), self.len, payload.0)
+        };
+        self.answered(reply).map(|_| ())
+    }
+
+    /// As [`hand_out`](Heap::hand_out), but gives a pointer. It is 8-aligned if [`aligned`](Heap::aligned)
+    /// says so, and good for `size` bytes until the payload is freed or `'a` ends.
+    pub fn alloc(&mut self, size: usize) -> Result<NonNull<u8>, Refusal> {
+        // A size beyond 32 bits is refused like any other that is too large.
+        let payload = self.hand_out(u32::try_from(size).unwrap_or(u32::MAX))?;
+        // An offset that was handed out lies inside, so the refusal here never comes.
+        self.pointer(payload).ok_or(Refusal::Damaged)
+    }
+
+    /// As [`take_back`](Heap::take_back), but takes a pointer. Any pointer may be given; one that
+    /// leads outside is `NotLive`.
+    ///
+    /// The bytes are not read and not changed through it. Whoever still has the pointer may not use
+    /// it: the payload can be handed out again.
+    pub fn free(&mut self, payload: NonNull<u8>) -> Result<(), Refusal> {
+        self.take_back(self.offset(payload).unwrap_or(NOWHERE))
+    }
+
+    /// The pointer to a byte of the words, or nothing if the offset lies behind them.
+    pub fn pointer(&self, offset: Offset) -> Option<NonNull<u8>> {
+        let at = usize::try_from(offset.0).ok()?;
+        if at >= self.bytes() {
+            return None;
+        }
+        // SAFETY: the byte is one of the lent words', so the sum stays inside them.
+        Some(unsafe { self.start.cast::<u8>().add(at) })
+    }
+
+    /// The offset of a byte that a pointer points to, or nothing if it is none of the lent words'.
+    pub fn offset(&self, pointer: NonNull<u8>) -> Option<Offset> {
+        let at = (pointer.as_ptr() as usize).wrapping_sub(self.start.as_ptr() as usize);
+        if at >= self.bytes() {
+            return None;
+        }
+        u32::try_from(at).ok().map(Offset)
+    }
+
+    /// Whether the words start at an address that is 4 mod 8, so that payloads are 8-aligned.
+    pub fn aligned(&self) -> bool {
+        self.start.as_ptr() as usize % 8 == 4
+    }
+
+    /// Whether record and words are sound. While they are not, every other call but zero and too
+    /// large sizes, making again and the readers is `Damaged`.
+    pub fn audit(&self) -> bool {
+        // SAFETY: start and length are those of words borrowed for `'a`, which are only read.
+        let sound = unsafe { door::lischemur_audit(self.record, self.start.as_ptr(), self.len) };
+        sound == 1
+    }
+
+    /// If high water has risen since the mark was last read: high water less 108 bytes a stacklet,
+    /// which may be negative.
+    pub fn mark(&mut self, stacklets: u32) -> Option<i64> {
+        // SAFETY: the function takes numbers only, and accepts any.
+        let marking = unsafe { door::lischemur_mark(self.record, stacklets) };
+        self.record = marking.rec;
+        (marking.changed == 1).then_some(marking.mark)
+    }
+
+    /// Bytes in use: the sum of used lengths, headers and the cached chunk included.
+    pub fn in_use(&self) -> u32 {
+        // SAFETY: the function takes numbers only, and accepts any.
+        unsafe { door::lischemur_in_use(self.record) }
+    }
+
+    /// The most bytes that were in use.
+    pub fn peak(&self) -> u32 {
+        // SAFETY: the function takes numbers only, and accepts any.
+        unsafe { door::lischemur_peak(self.record) }
+    }
+
+    /// High water: the largest end, in bytes, of a chunk that was handed out.
+    pub fn high_water(&self) -> u32 {
+        // SAFETY: the function takes numbers only, and accepts any.
+        unsafe { door::lischemur_high_water(self.record) }
+    }
+
+    /// How many free chunks the last making, handout or taking back compared.
+    pub fn compared(&self) -> u32 {
+        self.compared
+    }
+
+    /// What the heap keeps between calls.
+    pub fn record(&self) -> &Record {
+        &self.record
+    }
+
+    /// The lent words in bytes.
+    fn bytes(&self) -> usize {
+        // A slice has at most `isize::MAX` bytes, so this does not wrap.
+        4 * self.len
+    }
+
+    /// A reply as a result, its count kept.
+    fn answered(&mut self, reply: Reply) -> Result<u32, Refusal> {
+        self.compared = reply.compared;
+        Refusal::of_number(reply.number)?;
+        Ok(reply.value)
+    }
+}

@@ -1,0 +1,72 @@
+//! Refusals: the heap's answer numbers by name.
+//!
+//! After a refusal no word of the memory and no field of the record has changed.
+
+use core::fmt;
+
+/// The largest size that is not refused as too large: 4,294,967,284 bytes.
+pub const MOST_SIZE: u32 = 4_294_967_284;
+
+/// Why a call was refused.
+#[derive(Clone, Copy, Debug, PartialEq, Eq)]
+pub enum Refusal {
+    /// Answer 1: zero bytes were asked for.
+    ZeroSize,
+    /// Answer 2: more than [`MOST_SIZE`] bytes were asked for.
+    TooLarge,
+    /// Answer 3: the cached chunk does not serve, and no free chunk reaches the threshold.
+    NoFit,
+    /// Answer 4: the offset is no live payload's start.
+    NotLive,
+    /// Answer 5: the record and the words are no sound heap.
+    Damaged,
+    /// Answer 6: the length is no odd count of words from 5 to 65,529.
+    BadLength,
+    /// A number that the archive does not give: 7, which is for traces, or above.
+    Unknown(u32),
+}
+
+impl Refusal {
+    /// What an answer number says; any number has a meaning here.
+    pub const fn of_number(number: u32) -> Result<(), Refusal> {
+        match number {
+            0 => Ok(()),
+            1 => Err(Refusal::ZeroSize),
+            2 => Err(Refusal::TooLarge),
+            3 => Err(Refusal::NoFit),
+            4 => Err(Refusal::NotLive),
+            5 => Err(Refusal::Damaged),
+            6 => Err(Refusal::BadLength),
+            other => Err(Refusal::Unknown(other)),
+        }
+    }
+
+    /// The answer number of this refusal.
+    pub const fn number(self) -> u32 {
+        match self {
+            Refusal::ZeroSize => 1,
+            Refusal::TooLarge => 2,
+            Refusal::NoFit => 3,
+            Refusal::NotLive => 4,
+            Refusal::Damaged => 5,
+            Refusal::BadLength => 6,
+            Refusal::Unknown(number) => number,
+        }
+    }
+}
+
+impl fmt::Display for Refusal {
+    fn fmt(&self, out: &mut fmt::Formatter<'_>) -> fmt::Result {
+        match self {
+            Refusal::ZeroSize => out.write_str("zero bytes were asked for"),
+            Refusal::TooLarge => out.write_str("too many bytes were asked for"),
+            Refusal::NoFit => out.write_str("no free chunk is large enough"),
+            Refusal::NotLive => out.write_str("no live payload starts there"),
+            Refusal::Damaged => out.write_str("the heap is damaged"),
+            Refusal::BadLength => out.write_str("a heap cannot have so many words"),
+            Refusal::Unknown(number) => write!(out, "answer number {number} is unknown"),
+        }
+    }
+}
+
+impl core::error::Error for Refusal {}

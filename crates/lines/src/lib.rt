@@ -1,0 +1,21 @@
+// Lines of standard input in constant memory, and buffered standard output.
+//
+//     input    the next line: of a long line only the first bytes are kept, as many as there is room for
+//     output   a buffer, which is written out when it is full
+//     put      an answer line, a number, a byte into that buffer
+//
+// The buffers are the caller's. Nothing is proved here but that every call is safe and ends, given that each read and write returns: no
+// contract can say which bytes the system gives.
+mod input;
+mod output;
+mod put;
+
+pub use input::Input;
+pub use input::next_line;
+pub use input::read_kept;
+pub use output::Output;
+pub use output::flush;
+pub use output::flush_if;
+pub use put::put_answer;
+pub use put::put_byte;
+pub use put::put_number;

@@ -1,0 +1,39 @@
+// What is put into the output buffer: an answer line, a number, a byte.
+ghost use Prim.Native.Nat.{_≤_};
+ghost use lib.ListN.{length};
+use super::output::Output;
+use super::output::room;
+
+// Puts an answer line.
+pub fn put_answer(output: Output, out: &mut [u8], number: u8, value: u32, compared: u32) -> Output
+    requires { ⌜ 19 ≤ length (now out) ⌝ }
+{
+    let mut o = room(output, out, 19);
+    let used = o.used;
+    frame::write_answer(&mut out[used..used + 19], number, value, compared);
+    o.used = used + 19;
+    o
+}
+
+// Puts a space and a number's eight digits.
+pub fn put_number(output: Output, out: &mut [u8], number: u32) -> Output
+    requires { ⌜ 19 ≤ length (now out) ⌝ }
+{
+    let spaced = put_byte(output, out, 32);
+    let mut o = room(spaced, out, 8);
+    let used = o.used;
+    frame::write_field(&mut out[used..used + 8], number);
+    o.used = used + 8;
+    o
+}
+
+// Puts one byte.
+pub fn put_byte(output: Output, out: &mut [u8], byte: u8) -> Output
+    requires { ⌜ 19 ≤ length (now out) ⌝ }
+{
+    let mut o = room(output, out, 1);
+    let used = o.used;
+    out[used] = byte;
+    o.used = used + 1;
+    o
+}

@@ -1,0 +1,31 @@
+-- `turn::turn` meets its contract: a frame's request is asked, any other line is refused.
+use Rattle.turn.proofs.Laws.{good-by, bad-by}
+use borrow.Author.Needs.{needs}
+use Rattle.turn.proofs.turn.Statement.{statement}
+use Rattle.turn.proofs.turn.Tie as tie
+
+enum-told : tie.Need-enum-told
+enum-told c = search needs
+
+refuse-requires : tie.Need-refuse-requires
+refuse-requires c κs = search needs
+
+enum-known-line : tie.Need-enum-known-line
+enum-known-line c = search needs
+
+ask-requires : tie.Need-ask-requires
+ask-requires c κs = search needs
+
+returns : tie.Need-returns
+returns c = bad-by (c .before .before .before .before .args .rec) (c .before .before .before .before .args .memory .now) _ _ (c .before .enum-told .given .1) (c .refuse .ensures)
+
+same-length : tie.Need-same-length
+same-length c = search needs
+
+returns-2 : tie.Need-returns-2
+returns-2 c = good-by (c .before .before .before .before .before .before .before .before .args .rec) (c .before .before .before .before .before .before .before .before .args .memory .now) _ (c .before .before .ask .result) _ _ (c .before .before .before .before .before .line .given .1) (c .before .before .ask .ensures)
+
+pub turn-spec : {M : Type 1} → statement M
+turn-spec =
+    tie.close
+    (tie.spec enum-told refuse-requires enum-known-line ask-requires returns same-length returns-2)

@@ -1,0 +1,40 @@
+/* What the meter's kernel asks of a heap. kernel_ours.c answers with the proved one, kernel_malloc.c with newlib's. */
+#ifndef KERNEL_H
+#define KERNEL_H
+
+#include <stddef.h>
+#include <stdint.h>
+
+/* the words of the meter's memory */
+#define WORDS 16383u
+
+struct answer {
+    uint32_t number;   /* 0 to 6, as in the rules */
+    uint32_t value;    /* the payload's offset for a handout */
+    uint32_t compared; /* how many free chunks were compared */
+};
+
+/* as at power-on: memory zero, no heap made */
+void kernel_reset(void);
+
+struct answer kernel_make(uint32_t words);
+struct answer kernel_hand_out(uint32_t size);
+struct answer kernel_take_back(uint32_t payload);
+
+/* the audit alone: answer 0 for sound, 5 for damaged, 7 where a heap has none */
+struct answer kernel_audit(void);
+
+/* the counters: bytes in use, the most that were, high water, and the mark with one stacklet, 1 if there is none */
+struct figures {
+    uint32_t in_use, peak, high;
+    int64_t mark;
+};
+struct figures kernel_figures(void);
+
+/* the word at an offset that was handed out */
+uint32_t *kernel_word(uint32_t offset);
+
+/* the most stack bytes that a call took, below the kernel's own */
+extern uint32_t kernel_depth;
+
+#endif

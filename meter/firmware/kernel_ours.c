@@ -1,0 +1,76 @@
+/* The proved heap behind the kernel's calls: one record, one run of words, and the door of include/lischemur.h.
+ *
+ * With MEASURE_STACK each call is made on a painted stack; without, it is the bare call. */
+#include "kernel.h"
+#include "board.h"
+#include <lischemur.h>
+
+/* the heap begins at 4 mod 8, so that payloads lie at multiples of 8 */
+static uint32_t memory[WORDS + 1] __attribute__((aligned(8)));
+static uint32_t *const heap = memory + 1;
+
+/* all zero is the empty record: what static memory is at reset */
+static lischemur_record record;
+
+/* how many words the heap in use has; 0 before one is made */
+static uint32_t lent;
+
+uint32_t kernel_depth;
+
+#ifdef MEASURE_STACK
+#define CALLED(call)                                                                                                     \
+    paint();                                                                                                             \
+    lischemur_reply reply = call;                                                                                        \
+    uint32_t deep = depth();                                                                                             \
+    if (kernel_depth < deep)                                                                                             \
+        kernel_depth = deep;
+#else
+#define CALLED(call) lischemur_reply reply = call;
+#endif
+
+void kernel_reset(void)
+{
+    for (uint32_t w = 0; w < WORDS; w++)
+        heap[w] = 0;
+    record = (lischemur_record){0};
+    lent = 0;
+}
+
+struct answer kernel_make(uint32_t words)
+{
+    if (words > WORDS)
+        return (struct answer){6, 0, 0};
+    CALLED(lischemur_make(&record, heap, words, words))
+    if (reply.number == 0)
+        lent = words;
+    return (struct answer){reply.number, reply.value, reply.compared};
+}
+
+struct answer kernel_hand_out(uint32_t size)
+{
+    CALLED(lischemur_hand_out(&record, heap, lent, size))
+    return (struct answer){reply.number, reply.value, reply.compared};
+}
+
+struct answer kernel_take_back(uint32_t payload)
+{
+    CALLED(lischemur_take_back(&record, heap, lent, payload))
+    return (struct answer){reply.number, reply.value, reply.compared};
+}
+
+struct answer kernel_audit(void)
+{
+    return (struct answer){lischemur_audit(record, heap, lent) ? 0 : 5, 0, 0};
+}
+
+struct figures kernel_figures(void)
+{
+    lischemur_marking m = lischemur_mark(record, 1);
+    record = m.record;
+    return (struct figures){lischemur_in_use(record), lischemur_peak(record), lischemur_high_water(record), m.changed ? m.mark : 1};
+}
+
+uint32_t *kernel_word(uint32_t offset)
+{
+    return heap + offset / 4;
+}

@@ -1,0 +1,132 @@
+"""The traces that the meter answers, and the calls that are counted, made on the host from the rules' model (oracle/model.py).
+
+    WHOLE      the whole run of the rules, with the lines that they give for it
+    random     ten thousand lines: the first part on the largest heap of the trace program, the rest on heaps of many sizes, with
+               wrong frees, sizes at the limits and lines that are no frames among them
+    calls      the part on the largest heap again, as calls that any heap can serve: a slot in place of an offset
+    crowd      a heap with so many used chunks, then with every other one free: how a call's time grows
+"""
+
+import os
+import random
+import sys
+
+sys.dont_write_bytecode = True
+sys.path.insert(0, os.path.join(os.path.dirname(os.path.abspath(__file__)), "..", "oracle"))
+import model  # noqa: E402
+
+LINES = 10_000  # lines of the random trace
+FIRST = 6_000  # of these, on the largest heap
+SEED = 20
+
+MAKE, HAND_OUT, TAKE_BACK, AUDIT = range(4)  # the audit is no frame of a trace, only a call to be counted
+
+WHOLE = (
+    b"0000000021\n010000000D\n010000000C\n0200000004\n0100000014\n0200000004\n0200000004\n020000001C\n01FFFFFFFF\n"
+    b"0100000000\n0100000058\n",
+    """000000000000000000
+000000000400000001
+000000001C00000001
+000000000000000000
+000000000400000000
+000000000000000000
+040000000000000000
+000000000000000000
+020000000000000000
+010000000000000000
+030000000000000000
+""".split(),
+)
+
+
+def size_of(rng):
+    """A size as tasks ask for it: mostly small, at times a buffer, seldom a slip."""
+    draw = rng.random()
+    if draw < 0.01:
+        return rng.choice((0, model.LARGEST_SIZE, model.LARGEST_SIZE + 1, 2**32 - 1, 70_000))
+    if draw < 0.70:
+        return rng.randrange(1, 65)
+    if draw < 0.95:
+        return rng.randrange(65, 513)
+    return rng.randrange(513, 4097)
+
+
+def no_frame(rng):
+    """A line that is no frame."""
+    return rng.choice((b"", b"01", b"0300000001", b"01000000zz", b"010000000c", b"01000000010", b" 100000001", b"0100000001\r"))
+
+
+def random_trace():
+    """The random trace: its frames, its requests (none for what is no frame) and the lines that the model gives for it."""
+    rng = random.Random(SEED)
+    trace = model.Trace()
+    frames, requests, wanted, live, old = [], [], [], [], [4]
+    for at in range(LINES):
+        draw = rng.random()
+        request = None
+        if at == 1:
+            request = (MAKE, model.TRACE_WORDS)
+        elif at > FIRST and draw < 0.01:
+            request = (MAKE, rng.choice((5, 7, 9, 33, 34, 131, 1_001, 4_095, 16_383, 16_384, 16_385, 65_529, 2**32 - 1)))
+        elif draw < 0.02:
+            line = no_frame(rng)
+        elif draw < 0.06:
+            request = (TAKE_BACK, rng.choice((rng.choice(old), rng.randrange(0, 65_540), 8 * rng.randrange(8_192) + 4)))
+        elif draw < 0.06 + 0.94 * min(0.9, len(live) / 240) and live:
+            request = (TAKE_BACK, live[rng.randrange(len(live))])
+        else:
+            request = (HAND_OUT, size_of(rng))
+        requests.append(request)
+        frames.append(b"%02X%08X\n" % request if request else line + b"\n")
+        if request is None:
+            wanted += trace.line(line)
+            continue
+        answer, lines = trace.request(*request)
+        wanted += lines
+        if answer.number != model.DONE:
+            continue
+        if request[0] == MAKE:
+            live = []
+        elif request[0] == HAND_OUT:
+            live.append(answer.value)
+            old.append(answer.value)
+        else:
+            live.remove(request[1])
+    frames[-1] = frames[-1][:-1]
+    requests[-1] = None
+    wanted[-1] = model.Answer(model.NO_FRAME).line()
+    return b"".join(frames), requests, wanted
+
+
+def call(kind, slot, number):
+    """A line of the file `calls`."""
+    return b"%02X%04X%08X\n" % (kind, slot, number)
+
+
+def calls(requests, wanted):
+    """The requests of the first part that are answered 0, with slots in place of offsets."""
+    lines, slot_of, free = [], {}, list(range(1_000, -1, -1))
+    for request, line in zip(requests[:FIRST], wanted):
+        if request is None or int(line[:2], 16) != model.DONE:
+            continue
+        kind, number = request
+        if kind == MAKE:
+            lines.append(call(MAKE, 0, number))
+        elif kind == HAND_OUT:
+            slot = slot_of[int(line[2:10], 16)] = free.pop()
+            lines.append(call(HAND_OUT, slot, number))
+        else:
+            slot = slot_of.pop(number)
+            free.append(slot)
+            lines.append(call(TAKE_BACK, slot, 0))
+    return b"".join(lines)
+
+
+def crowd(chunks, every_other):
+    """Fill a heap with so many small chunks, free every other one if asked; the last three calls audit, hand out 40, take them back."""
+    lines = [call(MAKE, 0, model.TRACE_WORDS)]
+    lines += [call(HAND_OUT, slot, 12) for slot in range(chunks)]
+    if every_other:
+        lines += [call(TAKE_BACK, slot, 0) for slot in range(0, chunks, 2)]
+    lines += [call(AUDIT, 0, 0), call(HAND_OUT, chunks, 40), call(TAKE_BACK, chunks, 0)]
+    return b"".join(lines)

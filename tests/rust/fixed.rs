@@ -1,0 +1,424 @@
+//! Fixed checks: layouts, answer numbers, the rules' whole run and their entries reckoned by hand, the
+//! incident, frees that must be refused, pointers, and the mark.
+
+use crate::checks::{set_word, state, word, Checks};
+use lischemur::{accepted, Heap, Memory, Offset, Record, Refusal, MOST_SIZE, MOST_WORDS};
+use std::mem::{align_of, offset_of, size_of};
+use std::ptr::NonNull;
+
+/// The rules' whole run: a frame, and the answer line to it.
+const WHOLE_RUN: [(&str, &str); 11] = [
+    ("0000000021", "000000000000000000"),
+    ("010000000D", "000000000400000001"),
+    ("010000000C", "000000001C00000001"),
+    ("0200000004", "000000000000000000"),
+    ("0100000014", "000000000400000000"),
+    ("0200000004", "000000000000000000"),
+    ("0200000004", "040000000000000000"),
+    ("020000001C", "000000000000000000"),
+    ("01FFFFFFFF", "020000000000000000"),
+    ("0100000000", "010000000000000000"),
+    ("0100000058", "030000000000000000"),
+];
+
+/// The answer line to a frame.
+fn answer_line(heap: &mut Heap, frame: &str) -> String {
+    let number = u32::from_str_radix(&frame[2..], 16).expect("eight digits");
+    let answer = match &frame[..2] {
+        "00" => heap.make_again().map(|()| Offset(0)),
+        "01" => heap.hand_out(number),
+        _ => heap.take_back(Offset(number)).map(|()| Offset(0)),
+    };
+    let (number, Offset(value)) = match answer {
+        Ok(value) => (0, value),
+        Err(refusal) => (refusal.number(), Offset(0)),
+    };
+    format!("{number:02X}{value:08X}{:08X}", heap.compared())
+}
+
+/// The record's layout: in this crate, and in the archive as its readers see it.
+fn layout(checks: &mut Checks) {
+    let sizes = (size_of::<Record>(), align_of::<Record>());
+    checks.equal(
+        format_args!("size and alignment of the record"),
+        sizes,
+        (44, 4),
+    );
+    let offsets = [
+        offset_of!(Record, prev),
+        offset_of!(Record, next),
+        offset_of!(Record, words),
+        offset_of!(Record, in_use),
+        offset_of!(Record, peak),
+        offset_of!(Record, high),
+        offset_of!(Record, cached),
+        offset_of!(Record, fresh),
+    ];
+    let wanted = [0, 12, 24, 28, 32, 36, 40, 42];
+    checks.equal(format_args!("offsets of its fields"), offsets, wanted);
+
+    let record = Record {
+        prev: [1, 2, 3, 4, 5, 6],
+        next: [7, 8, 9, 10, 11, 12],
+        words: 0x0102_0304,
+        in_use: 0x1112_1314,
+        peak: 0x2122_2324,
+        high: 0x3132_3334,
+        cached: 0x4142,
+        fresh: true,
+    };
+    let mut heap = Heap::over(record, &mut []);
+    let readers = (heap.in_use(), heap.peak(), heap.high_water());
+    let wanted = (record.in_use, record.peak, record.high);
+    checks.equal(format_args!("readers"), readers, wanted);
+    let mark = heap.mark(0);
+    checks.equal(format_args!("mark"), mark, Some(0x3132_3334));
+    let marked = Record {
+        fresh: false,
+        ..record
+    };
+    checks.equal(
+        format_args!("record after the mark"),
+        *heap.record(),
+        marked,
+    );
+
+    let mut memory = Memory::<33>::new();
+    let mut heap = Heap::make(memory.words()).expect("an accepted length");
+    let made = Record {
+        prev: [0, 1, 2, 6, 4, 5],
+        next: [0, 1, 2, 6, 4, 5],
+        words: 33,
+        ..Record::EMPTY
+    };
+    checks.equal(format_args!("record of 33 words"), *heap.record(), made);
+    let words: Vec<u32> = [0, 1, 31, 32].map(|index| word(&heap, index)).into();
+    checks.equal(format_args!("its words"), words, vec![129, 196_611, 128, 2]);
+    checks.equal(format_args!("handout"), heap.hand_out(13), Ok(Offset(4)));
+    checks.equal(format_args!("free"), heap.take_back(Offset(4)), Ok(()));
+    let cached = Record {
+        prev: [0, 1, 12, 3, 4, 5],
+        next: [0, 1, 12, 3, 4, 5],
+        words: 33,
+        in_use: 24,
+        peak: 24,
+        high: 24,
+        cached: 6,
+        fresh: true,
+    };
+    checks.equal(
+        format_args!("record with a cached chunk"),
+        *heap.record(),
+        cached,
+    );
+}
+
+/// Every answer number is one refusal's, and back.
+fn numbers(checks: &mut Checks) {
+    let named = [
+        Refusal::ZeroSize,
+        Refusal::TooLarge,
+        Refusal::NoFit,
+        Refusal::NotLive,
+        Refusal::Damaged,
+        Refusal::BadLength,
+    ];
+    checks.equal(format_args!("number 0"), Refusal::of_number(0), Ok(()));
+    for (refusal, number) in named.into_iter().zip(1..) {
+        let meant = Refusal::of_number(number);
+        checks.equal(format_args!("number {number}"), meant, Err(refusal));
+        checks.equal(
+            format_args!("number of {refusal}"),
+            refusal.number(),
+            number,
+        );
+    }
+    for number in (7..1000).chain([u32::MAX]) {
+        let meant = Refusal::of_number(number);
+        let wanted = Err(Refusal::Unknown(number));
+        checks.equal(format_args!("number {number}"), meant, wanted);
+    }
+}
+
+/// The rules' whole run, line by line.
+fn whole_run(checks: &mut Checks) {
+    let mut memory = Memory::<33>::new();
+    let mut heap = Heap::over(Record::EMPTY, memory.words());
+    for (frame, line) in WHOLE_RUN {
+        let got = answer_line(&mut heap, frame);
+        checks.equal(format_args!("frame {frame}"), got.as_str(), line);
+    }
+}
+
+/// The incident: sizes whose sum with a header wraps are too large, and nothing changes.
+fn incident(checks: &mut Checks) {
+    let mut memory = Memory::<33>::new();
+    let mut heap = Heap::make(memory.words()).expect("an accepted length");
+    checks.equal(format_args!("handout"), heap.hand_out(13), Ok(Offset(4)));
+    let before = state(&heap, 33);
+    for size in (MOST_SIZE + 1..=u32::MAX).rev() {
+        let got = heap.hand_out(size);
+        checks.equal(
+            format_args!("asked for {size}"),
+            got,
+            Err(Refusal::TooLarge),
+        );
+        checks.equal(format_args!("after it"), state(&heap, 33), before.clone());
+    }
+    for size in [4_294_967_295, 4_294_967_296, 4_294_967_308, usize::MAX] {
+        let got = heap.alloc(size);
+        checks.equal(
+            format_args!("asked for {size}"),
+            got,
+            Err(Refusal::TooLarge),
+        );
+        checks.equal(format_args!("after it"), state(&heap, 33), before.clone());
+    }
+    let most = heap.hand_out(MOST_SIZE);
+    checks.equal(format_args!("the largest size"), most, Err(Refusal::NoFit));
+    checks.equal(format_args!("after it"), state(&heap, 33), before);
+}
+
+/// A lent run of zeros, a heap over it, and what a few requests give.
+fn entry(checks: &mut Checks, words: usize, sizes: &[u32], wanted: &[Result<Offset, Refusal>]) {
+    let mut lent = vec![0; words];
+    let mut heap = Heap::make(&mut lent).expect("an accepted length");
+    let got: Vec<_> = sizes.iter().map(|size| heap.hand_out(*size)).collect();
+    let what = format_args!("{words} words, asked for {sizes:?}");
+    checks.equal(what, got.as_slice(), wanted);
+}
+
+/// The rules' entries reckoned by hand, as far as a caller sees them.
+fn entries(checks: &mut Checks) {
+    for words in [0, 1, 3, 4, 8, 65_528, 65_530, 65_531, 100_001] {
+        let mut lent = vec![7; words];
+        let refusal = Heap::make(&mut lent).err();
+        let what = format_args!("making {words} words");
+        checks.equal(what, refusal, Some(Refusal::BadLength));
+        checks.holds(what, lent.iter().all(|word| *word == 7) && !accepted(words));
+    }
+    for words in [5, 7, 33, 65_527, MOST_WORDS] {
+        let mut lent = vec![7; words];
+        let heap = Heap::make(&mut lent);
+        let held = heap.is_ok_and(|heap| heap.audit()) && accepted(words);
+        checks.holds(format_args!("making {words} words"), held);
+    }
+    let no_fit = Err(Refusal::NoFit);
+    entry(checks, 5, &[1], &[no_fit]);
+    entry(checks, 7, &[1], &[no_fit]);
+    entry(checks, 9, &[12, 1], &[Ok(Offset(4)), no_fit]);
+    entry(checks, 9, &[20, 1], &[Ok(Offset(4)), no_fit]);
+    entry(checks, 9, &[28, MOST_SIZE], &[no_fit, no_fit]);
+    entry(
+        checks,
+        33,
+        &[1, 12, 13, 1],
+        &[4, 20, 36, 60].map(|at| Ok(Offset(at))),
+    );
+
+    // a cached chunk of 536 serves 24 bytes, one of 544 does not
+    for (size, second) in [(532, Offset(4)), (540, Offset(548))] {
+        let mut lent = vec![0; 1001];
+        let mut heap = Heap::make(&mut lent).expect("an accepted length");
+        let first = heap.hand_out(size);
+        checks.equal(format_args!("asked for {size}"), first, Ok(Offset(4)));
+        checks.equal(format_args!("free"), heap.take_back(Offset(4)), Ok(()));
+        let next = heap.hand_out(20);
+        checks.equal(format_args!("20 after {size}"), next, Ok(second));
+    }
+
+    // 33 words: a merge on the left, and the counters
+    let mut lent = vec![0; 33];
+    let mut heap = Heap::make(&mut lent).expect("an accepted length");
+    for at in [4, 20, 36] {
+        checks.equal(
+            format_args!("asked for 12"),
+            heap.hand_out(12),
+            Ok(Offset(at)),
+        );
+    }
+    for at in [4, 36, 20] {
+        checks.equal(
+            format_args!("free of {at}"),
+            heap.take_back(Offset(at)),
+            Ok(()),
+        );
+    }
+    checks.equal(
+        format_args!("asked for 40"),
+        heap.hand_out(40),
+        Ok(Offset(36)),
+    );
+    let counters = (heap.high_water(), heap.peak());
+    checks.equal(format_args!("high water and peak"), counters, (80, 64));
+    checks.equal(
+        format_args!("free of 36"),
+        heap.take_back(Offset(36)),
+        Ok(()),
+    );
+    checks.equal(format_args!("in use"), heap.in_use(), 48);
+    checks.equal(format_args!("the merged chunk"), word(&heap, 0), 33);
+}
+
+/// Frees that must be refused, and that change nothing.
+fn frees(checks: &mut Checks) {
+    let mut memory = Memory::<101>::new();
+    let mut heap = Heap::make(memory.words()).expect("an accepted length");
+    let first = heap.alloc(40).expect("a payload");
+    let second = heap.alloc(40).expect("a payload");
+    checks.equal(format_args!("free"), heap.free(first), Ok(()));
+    // a task's data that looks like a used header of 16 bytes
+    set_word(&heap, 14, 19);
+    let before = state(&heap, 101);
+    let inside = heap.pointer(Offset(60)).expect("a byte of the heap");
+    let mut elsewhere = 0_u64;
+    let outside = NonNull::from(&mut elsewhere).cast();
+    for pointer in [first, inside, outside, NonNull::dangling()] {
+        let freed = heap.free(pointer);
+        checks.equal(
+            format_args!("a free of no live payload"),
+            freed,
+            Err(Refusal::NotLive),
+        );
+        checks.equal(format_args!("after it"), state(&heap, 101), before.clone());
+    }
+    checks.equal(format_args!("free"), heap.free(second), Ok(()));
+    for pointer in [first, second] {
+        let freed = heap.free(pointer);
+        checks.equal(format_args!("a double free"), freed, Err(Refusal::NotLive));
+    }
+}
+
+/// Pointers and offsets, there and back.
+fn pointers(checks: &mut Checks) {
+    let mut memory = Memory::<101>::new();
+    let start = memory.words().as_mut_ptr() as usize;
+    checks.equal(format_args!("start of the memory mod 8"), start % 8, 4);
+    let mut heap = Heap::make(memory.words()).expect("an accepted length");
+    checks.holds(format_args!("payloads are 8-aligned"), heap.aligned());
+    for at in 0..404 {
+        let pointer = heap.pointer(Offset(at)).expect("a byte of the heap");
+        checks.equal(
+            format_args!("pointer"),
+            pointer.as_ptr() as usize,
+            start + at as usize,
+        );
+        checks.equal(
+            format_args!("offset"),
+            heap.offset(pointer),
+            Some(Offset(at)),
+        );
+    }
+    for at in [404, 405, u32::MAX] {
+        let pointer = heap.pointer(Offset(at));
+        checks.equal(format_args!("pointer to {at}"), pointer, None);
+    }
+    for address in [start - 1, start + 404, 1, usize::MAX] {
+        let pointer = NonNull::new(address as *mut u8).expect("not null");
+        checks.equal(
+            format_args!("offset of {address}"),
+            heap.offset(pointer),
+            None,
+        );
+    }
+    while let Ok(payload) = heap.alloc(13) {
+        checks.equal(
+            format_args!("payload mod 8"),
+            payload.as_ptr() as usize % 8,
+            0,
+        );
+    }
+
+    // a heap goes on where it was left
+    let (record, words) = heap.into_parts();
+    let mut heap = Heap::over(record, words);
+    checks.holds(format_args!("sound as it was left"), heap.audit());
+    checks.equal(format_args!("free"), heap.take_back(Offset(4)), Ok(()));
+
+    // words that start elsewhere make a heap too, and it says so
+    let mut memory = Memory::<103>::new();
+    let mut heap = Heap::make(&mut memory.words()[1..102]).expect("an accepted length");
+    checks.holds(format_args!("payloads are not 8-aligned"), !heap.aligned());
+    checks.equal(format_args!("handout"), heap.hand_out(13), Ok(Offset(4)));
+}
+
+/// Before a heap is made, after a length that is refused, and the mark.
+fn records(checks: &mut Checks) {
+    let mut lent = vec![7; 33];
+    let mut heap = Heap::over(Record::EMPTY, &mut lent);
+    checks.holds(format_args!("no heap is made yet"), !heap.audit());
+    checks.equal(
+        format_args!("size 0"),
+        heap.hand_out(0),
+        Err(Refusal::ZeroSize),
+    );
+    checks.equal(
+        format_args!("size 1"),
+        heap.hand_out(1),
+        Err(Refusal::Damaged),
+    );
+    let freed = heap.take_back(Offset(4));
+    checks.equal(format_args!("free"), freed, Err(Refusal::Damaged));
+    checks.equal(
+        format_args!("after refusals"),
+        state(&heap, 33),
+        (Record::EMPTY, vec![7; 33]),
+    );
+
+    let kept = Record {
+        words: 33,
+        high: 80,
+        fresh: true,
+        ..Record::EMPTY
+    };
+    let mut even = vec![7; 34];
+    let mut heap = Heap::over(kept, &mut even);
+    let made = heap.make_again();
+    checks.equal(
+        format_args!("making 34 words"),
+        made,
+        Err(Refusal::BadLength),
+    );
+    checks.equal(
+        format_args!("after it"),
+        state(&heap, 34),
+        (kept, vec![7; 34]),
+    );
+
+    for (high, stacklets, mark) in [
+        (80, 0, 80),
+        (108, 1, 0),
+        (80, 1, -28),
+        (0, u32::MAX, -463_856_467_860),
+    ] {
+        let mut heap = Heap::over(
+            Record {
+                high,
+                fresh: true,
+                ..Record::EMPTY
+            },
+            &mut [],
+        );
+        let what = format_args!("mark of {high} with {stacklets}");
+        checks.equal(what, heap.mark(stacklets), Some(mark));
+        checks.equal(what, heap.mark(stacklets), None);
+    }
+}
+
+/// Run all.
+pub fn run(checks: &mut Checks) {
+    let parts: [(&str, fn(&mut Checks)); 8] = [
+        ("layout", layout),
+        ("answer numbers", numbers),
+        ("whole run", whole_run),
+        ("incident", incident),
+        ("entries reckoned by hand", entries),
+        ("refused frees", frees),
+        ("pointers", pointers),
+        ("records", records),
+    ];
+    for (name, part) in parts {
+        checks.begin(name.into());
+        part(checks);
+    }
+}
