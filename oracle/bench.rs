@@ -337,8 +337,8 @@ fn sections(audits: &[Ratio], untargeted: &[Ratio], calls: &[Ratio]) -> String {
 
 `oracle/bench` measures this section and the next and writes them here, with the plot. The figures are ratios of times on one computer,
 both sides optimised and measured in turns in one process: the median of {REPEATS} repeats, and the least and the most. A repeat keeps
-the fastest of {SPELLS} short spells of either side. Other work on the same core slows the audit and hardly the walk, which only waits for one
-header after the other: on a busy computer medians and spreads are higher.
+the fastest of {SPELLS} short spells of either side. On a busy computer the audit was seen
+to take up to twice its time where a walk of 4,000 chunks hardly took longer, so there medians and spreads are higher.
 
 ![The ratios, with the targets](benchmarks.svg)
 
