@@ -19,13 +19,17 @@ use port::Record;
 use std::fs;
 use std::hint::black_box;
 use std::process::exit;
-use std::time::Instant;
+use std::thread::sleep;
+use std::time::{Duration, Instant};
 
 /// The words of the long heaps.
 const WORDS: u32 = 16_383;
 
 /// How often each ratio is measured.
-const REPEATS: usize = 15;
+const REPEATS: usize = 31;
+
+/// The pause between repeats: they should see the computer at different moments.
+const PAUSE: Duration = Duration::from_millis(60);
 
 /// Of how many spells of each side, taken in turns, a repeat keeps the fastest.
 const SPELLS: usize = 20;
@@ -36,6 +40,13 @@ const SPELL: f64 = 0.0005;
 /// The lines of docs/BENCHMARKS.md between which the figures stand.
 const BEGIN: &str = "<!-- oracle/bench: begin -->";
 const END: &str = "<!-- oracle/bench: end -->";
+
+/// How docs/BENCHMARKS.md begins if there is none.
+const INTRODUCTION: &str = "# What it costs
+
+Figures that were measured, how, and how to measure them again. Nothing here is proved.
+
+";
 
 /// A ratio measured several times.
 struct Ratio {
@@ -62,6 +73,8 @@ struct Shape {
     asks: u32,
     size: u32,
     free_every: u32,
+    /// The last one is freed first, so that the first chunk is the cached one at the end.
+    backwards: bool,
 }
 
 /// Something that asks and frees: the port or the Rust.
@@ -110,10 +123,18 @@ fn made(words: u32) -> Heap {
 /// Bring a heap that was just made into a shape.
 fn bring(heap: &mut impl Requests, shape: &Shape) {
     let payloads: Vec<u32> = (0..shape.asks).map(|_| heap.ask(shape.size)).collect();
-    if shape.free_every > 0 {
-        for payload in payloads.iter().step_by(shape.free_every as usize) {
-            heap.free(*payload);
-        }
+    if shape.free_every == 0 {
+        return;
+    }
+    let mut frees: Vec<u32> = payloads
+        .into_iter()
+        .step_by(shape.free_every as usize)
+        .collect();
+    if shape.backwards {
+        frees.reverse();
+    }
+    for payload in frees {
+        heap.free(payload);
     }
 }
 
@@ -182,7 +203,10 @@ fn ratio(
 ) -> Ratio {
     let times = (times_of(&mut over), times_of(&mut under));
     let mut pairs: Vec<(f64, f64)> = (0..REPEATS)
-        .map(|_| fastest(&mut over, &mut under, times))
+        .map(|_| {
+            sleep(PAUSE);
+            fastest(&mut over, &mut under, times)
+        })
         .collect();
     pairs.sort_by(|a, b| (a.0 / a.1).total_cmp(&(b.0 / b.1)));
     let of = |at: usize| pairs[at].0 / pairs[at].1;
@@ -239,7 +263,7 @@ fn audit_ratio(name: &str, target: Option<f64>, shape: &Shape) -> Ratio {
         "the heap is sound"
     );
     ratio(
-        format!("{name}: {free} free and {used} used"),
+        format!("{name} ({free} free, {used} used)"),
         target,
         || {
             black_box(port::audit(black_box(&heap.record), black_box(&heap.words)));
@@ -309,23 +333,24 @@ fn rows(ratios: &[Ratio]) -> String {
 fn sections(audits: &[Ratio], untargeted: &[Ratio], calls: &[Ratio]) -> String {
     format!(
         "{BEGIN}
-The figures of the two sections below are ratios of times on one computer, both sides optimised and measured in turns in one
-process: the median of {REPEATS} repeats, and the least and the most. A repeat keeps the fastest of {SPELLS} short spells of either side. This command measures them anew and writes them, and the plot, here:
+## The audit against one walk of the tiling
 
-    oracle/bench
+`oracle/bench` measures this section and the next and writes them here, with the plot. The figures are ratios of times on one computer,
+both sides optimised and measured in turns in one process: the median of {REPEATS} repeats, and the least and the most. A repeat keeps
+the fastest of {SPELLS} short spells of either side. On a busy computer the audit was seen
+to take up to twice its time where a walk of 4,000 chunks hardly took longer, so there medians and spreads are higher.
 
 ![The ratios, with the targets](benchmarks.svg)
 
-## The audit against one walk of the tiling
-
-The audit alone, `lischemur_audit`, over a plain loop that goes from header to header of the same words and tests nothing. The heap has
-16,383 words.
+Here it is the audit alone, `lischemur_audit`, over a plain loop that goes from header to header of the same words and tests nothing. The
+heap has 16,383 words.
 
 | Heap, by chunks | Audit over walk | Spread | Target |
 |---|---|---|---|
 {}
-The audit walks the tiling twice whole and a third time up to the cached chunk, follows each list both ways, and follows all lists once
-more for each window of 1,024 words. So free chunks cost more than used ones, and most where they are many beside few used:
+Where the time goes: the tiling is walked twice whole, the first time with all tests, and a third time with all tests up to the cached
+chunk, which above is the last one freed, near the heap's end. Each list is followed once both ways, and once more for each of the 16
+windows of 1,024 words. With few chunks a fixed cost shows, which a heap just made has alone. States that tell these apart:
 
 | Heap, by chunks | Audit over walk | Spread |
 |---|---|---|
@@ -350,13 +375,13 @@ on the same states. Each of our calls audits the whole heap first, and the Rust'
 /// Put the sections where they belong in docs/BENCHMARKS.md, and leave the rest of it as it is.
 fn write_sections(text: &str) -> std::io::Result<()> {
     let path = "docs/BENCHMARKS.md";
-    let old = fs::read_to_string(path).unwrap_or_else(|_| "# Benchmarks\n\n".to_string());
+    let old = fs::read_to_string(path).unwrap_or_else(|_| INTRODUCTION.to_string());
     let (before, after) = match (old.find(BEGIN), old.find(END)) {
         (Some(begin), Some(end)) => (
             &old[..begin],
             old[end + END.len()..].trim_start_matches('\n'),
         ),
-        _ => old.split_at(old.find("\n\n").map_or(old.len(), |end| end + 2)),
+        _ => old.split_at(old.find("## ").unwrap_or(old.len())),
     };
     let gap = if after.is_empty() { "" } else { "\n" };
     fs::write(path, format!("{before}{text}{gap}{after}"))
@@ -364,7 +389,7 @@ fn write_sections(text: &str) -> std::io::Result<()> {
 
 /// Where a ratio stands on the plot: a logarithmic scale from 1 to 10,000.
 fn place(ratio: f64) -> f64 {
-    320.0 + 140.0 * ratio.max(1.0).log10()
+    340.0 + 140.0 * ratio.max(1.0).log10()
 }
 
 /// A bar of the plot with its spread and its target.
@@ -379,13 +404,13 @@ fn bar(at: usize, ratio: &Ratio) -> String {
         )
     });
     format!(
-        "<text x=\"312\" y=\"{}\" text-anchor=\"end\">{}</text>\n\
-         <rect x=\"320\" y=\"{y}\" width=\"{:.1}\" height=\"18\" fill=\"#79a\"/>\n\
+        "<text x=\"332\" y=\"{}\" text-anchor=\"end\">{}</text>\n\
+         <rect x=\"340\" y=\"{y}\" width=\"{:.1}\" height=\"18\" fill=\"#79a\"/>\n\
          <path d=\"M{least:.1} {} H{most:.1}\" stroke=\"#000\"/>\n\
          <text x=\"{:.1}\" y=\"{}\">{:.1}</text>\n{target}",
         y + 13,
         ratio.name,
-        end - 320.0,
+        end - 340.0,
         y + 9,
         most.max(ratio.target.map_or(0.0, place)) + 6.0,
         y + 13,
@@ -410,7 +435,7 @@ fn plot(ratios: &[&Ratio]) -> String {
         })
         .concat();
     format!(
-        "<svg xmlns=\"http://www.w3.org/2000/svg\" width=\"940\" height=\"{}\" font-family=\"sans-serif\" font-size=\"12\">\n\
+        "<svg xmlns=\"http://www.w3.org/2000/svg\" width=\"960\" height=\"{}\" font-family=\"sans-serif\" font-size=\"12\">\n\
          <rect width=\"100%\" height=\"100%\" fill=\"#fff\"/>\n\
          <text x=\"10\" y=\"16\">Ratios: median as a bar, least to most as a line, targets in red (logarithmic scale)</text>\n\
          {scale}{bars}</svg>\n",
@@ -418,32 +443,38 @@ fn plot(ratios: &[&Ratio]) -> String {
     )
 }
 
-/// The audit on the states that have a target.
-fn audits() -> Vec<Ratio> {
-    let shape = |asks, size, free_every| Shape {
+/// A shape of the long heap; the last chunk freed, so the cached one, is the last of the heap unless it is brought backwards.
+fn long(asks: u32, size: u32, free_every: u32) -> Shape {
+    Shape {
         words: WORDS,
         asks,
         size,
         free_every,
-    };
+        backwards: false,
+    }
+}
+
+/// The audit on the states that have a target.
+fn audits() -> Vec<Ratio> {
     vec![
-        audit_ratio("about 2,000 free", Some(20.0), &shape(4000, 12, 2)),
-        audit_ratio("about 200 free", Some(4.0), &shape(4000, 12, 20)),
-        audit_ratio("nearly empty", Some(8.0), &shape(8, 100, 0)),
+        audit_ratio("about 2,000 free", Some(20.0), &long(4000, 12, 2)),
+        audit_ratio("about 200 free", Some(4.0), &long(4000, 12, 20)),
+        audit_ratio("nearly empty", Some(8.0), &long(8, 100, 0)),
     ]
 }
 
 /// The audit on states that have none.
 fn more_audits() -> Vec<Ratio> {
-    let shape = |asks, size, free_every| Shape {
-        words: WORDS,
-        asks,
-        size,
-        free_every,
+    let early = Shape {
+        backwards: true,
+        ..long(4000, 12, 20)
     };
     vec![
-        audit_ratio("few long chunks", None, &shape(400, 156, 2)),
-        audit_ratio("no free chunk but the rest", None, &shape(4000, 12, 0)),
+        audit_ratio("cached chunk first", None, &early),
+        audit_ratio("nothing cached", None, &long(4000, 12, 0)),
+        audit_ratio("few and longer", None, &long(400, 156, 2)),
+        audit_ratio("a tenth in use", None, &long(60, 100, 0)),
+        audit_ratio("just made", None, &long(0, 0, 0)),
     ]
 }
 
@@ -455,6 +486,7 @@ fn calls() -> Vec<Ratio> {
         asks,
         size: 12,
         free_every,
+        backwards: false,
     };
     vec![
         call_ratio("small: 33 words", &mut oracle, &shape(33, 0, 0), &[12, 20]),

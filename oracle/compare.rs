@@ -44,20 +44,33 @@ struct Comparison {
 }
 
 impl Comparison {
-    /// Play a history. A difference is shown with the fewest steps, and is the end.
+    /// Play a history. A difference is the end.
     fn play(&mut self, name: &str, history: &History) {
         if self.pair.play(history).is_err() {
-            let least = self.shrunk(history);
-            eprintln!(
-                "compare: {name}: Rust and port differ\n{}",
-                self.pair.tell(&least)
-            );
-            exit(1);
+            self.report(name, history, None);
         }
     }
 
+    /// What differs after a history, or after damage of a seed to the heap that it leaves.
+    fn fault(&mut self, history: &History, damage: Option<u64>) -> Option<String> {
+        match self.pair.play(history) {
+            Err((_, what)) => Some(what),
+            Ok(()) => damage.and_then(|seed| self.damage(seed).err()),
+        }
+    }
+
+    /// Show a difference with the fewest steps, and stop.
+    fn report(&mut self, name: &str, history: &History, damage: Option<u64>) -> ! {
+        let least = self.shrunk(history, damage);
+        eprintln!("compare: {name}: a difference\n{}", self.pair.tell(&least));
+        if let Some(what) = self.fault(&least, damage) {
+            eprintln!("{what}");
+        }
+        exit(1)
+    }
+
     /// A history that still shows a difference, from which no step can be left out.
-    fn shrunk(&mut self, history: &History) -> History {
+    fn shrunk(&mut self, history: &History, damage: Option<u64>) -> History {
         let mut least = history.clone();
         if let Err((at, _)) = self.pair.play(&least) {
             least.steps.truncate(at + 1);
@@ -65,7 +78,7 @@ impl Comparison {
         let mut run = least.steps.len();
         while run > 0 {
             let before = least.steps.len();
-            self.leave_out(&mut least, run);
+            self.leave_out(&mut least, damage, run);
             // Once more with single steps as long as that helps: fewer asks give other ranks.
             if run > 1 || least.steps.len() == before {
                 run /= 2;
@@ -75,13 +88,13 @@ impl Comparison {
     }
 
     /// Leave out every run of so many steps without which there still is a difference.
-    fn leave_out(&mut self, least: &mut History, run: usize) {
+    fn leave_out(&mut self, least: &mut History, damage: Option<u64>, run: usize) {
         let mut from = 0;
         while from < least.steps.len() {
             let mut shorter = least.clone();
             let to = (from + run).min(least.steps.len());
             shorter.steps.drain(from..to);
-            if self.pair.play(&shorter).is_err() {
+            if self.fault(&shorter, damage).is_some() {
                 *least = shorter;
             } else {
                 from += run;
@@ -164,29 +177,29 @@ impl Comparison {
     fn random(&mut self, seed: u64) {
         let mut numbers = Numbers::new(seed);
         let history = random_history(&mut numbers);
-        self.play(&format!("random history {seed}"), &history);
+        let name = format!("random history {seed}");
+        self.play(&name, &history);
         let times = if history.words < 2000 { 60 } else { 6 };
-        let state = self.pair.state();
         for _ in 0..times {
-            self.damage(seed, &state, &mut numbers);
+            let damage = numbers.next();
+            if self.damage(damage).is_err() {
+                self.report(&name, &history, Some(damage));
+            }
         }
     }
 
-    /// Damage a sound state in one place or two, and let both audits and the calls judge it.
-    fn damage(&mut self, seed: u64, state: &State, numbers: &mut Numbers) {
-        let mut damaged = state.clone();
-        let mut ways = vec![damaged.damage(numbers)];
+    /// Damage a copy of the heap in one place or two, as a seed says, and let both audits and the calls judge it.
+    fn damage(&mut self, seed: u64) -> Result<(), String> {
+        let mut numbers = Numbers::new(seed);
+        let mut state = self.pair.state();
+        let mut ways = vec![state.damage(&mut numbers)];
         if numbers.one_in(2) {
-            ways.push(damaged.damage(numbers));
+            ways.push(state.damage(&mut numbers));
         }
-        if let Err(what) = self.judge(&damaged, numbers) {
-            eprintln!(
-                "compare: random history {seed}, then damage to {}: {what}",
-                ways.join(" and to ")
-            );
-            show(&damaged);
-            exit(1);
-        }
+        self.judge(&state, &mut numbers).map_err(|what| {
+            let ways = ways.join(" and to ");
+            format!("then damage to {ways}: {what}\n{}", told(&state))
+        })
     }
 
     /// Whether the two audits agree on a state, and the calls do what a sound or a damaged one asks of them.
@@ -332,12 +345,14 @@ fn changes() -> Vec<Box<dyn Fn(&mut Record)>> {
     all
 }
 
-/// Show a state: its record, and its words if they are few.
-fn show(state: &State) {
-    eprintln!("{:?}", state.record);
-    if state.words.len() < 200 {
-        eprintln!("{:?}", state.words);
-    }
+/// A state in words: its record, and what it holds if that is little.
+fn told(state: &State) -> String {
+    let words = if state.words.len() < 200 {
+        &state.words[..]
+    } else {
+        &[]
+    };
+    format!("{:?}\n{words:?}", state.record)
 }
 
 /// A random history: a length, a filling, and steps in spells of growing, shrinking and both.

@@ -2,9 +2,16 @@
 
 archive=target/staticlib/libdoor.a
 
-# build the proved library if a source is newer than it, and the oracle; then a program over both
+# the source files that the library is made of and that are newer than it
+newer_sources() {
+    for crate in door $(sed -n 's/^door://p' crates.txt); do
+        find "crates/$crate/src" -type f -newer $archive
+    done
+}
+
+# build the proved library if it is not there or a source is newer, and the oracle; then a program over both
 build_program() {
-    if [ ! -f $archive ] || [ -n "$(find crates/*/src -newer $archive)" ]; then
+    if [ ! -f $archive ] || [ -n "$(newer_sources)" ]; then
         rt staticlib door
     fi
     oracle/build
