@@ -6,8 +6,8 @@
 #include <lischemur.h>
 
 /* the heap begins at 4 mod 8, so that payloads lie at multiples of 8 */
-static uint32_t memory[WORDS + 1] __attribute__((aligned(8)));
-static uint32_t *const heap = memory + 1;
+static LISCHEMUR_MEMORY(WORDS) memory;
+static uint32_t *const heap = memory.heap;
 
 /* all zero is the empty record: what static memory is at reset */
 static lischemur_record record;
@@ -72,5 +72,5 @@ struct figures kernel_figures(void)
 
 uint32_t *kernel_word(uint32_t offset)
 {
-    return heap + offset / 4;
+    return lischemur_pointer(heap, offset);
 }
