@@ -73,7 +73,14 @@ fn one_line(run: Run, memory: &mut [u32], out: &mut [u8], line: &mut [u8], buffe
 }
 
 // Takes a line's turn and writes its answer line. What waits is written out before the program has to wait for input.
-fn answer(rec: Record, input: Input, output: Output, memory: &mut [u32], out: &mut [u8], line: Line) -> Run
+fn answer(
+    rec: Record,
+    input: Input,
+    output: Output,
+    memory: &mut [u32],
+    out: &mut [u8],
+    line: Line,
+) -> Run
     requires { ⌜ 19 ≤ length (now out) ⌝ }
 {
     let reply = turn::turn(rec, memory, line);
