@@ -1,4 +1,4 @@
--- `replay::put_words` is safe and ends. Invariant: k is at most the length, and the buffer keeps its own. Measure: the words left.
+-- `replay::put_words` is safe and ends. Invariant: k is at most n, and the buffer keeps its length. Measure: the words left.
 use borrow.Author.Needs.{needs}
 use mathlib.Core.Path.{_≡_}
 use Prim.Native.Nat.{_≤_, _-_}
@@ -7,10 +7,10 @@ use Rattle.replay.proofs.put_words.Statement.{statement}
 use Rattle.replay.proofs.put_words.Tie as tie
 
 abbrev Inv-loop : tie.InvT-loop
-Inv-loop out₀ memory n o₀ k₀ out o k = (k ≤ length memory) × (length out ≡ length out₀)
+Inv-loop out₀ memory n o₀ k₀ out o k = (k ≤ n) × (length out ≡ length out₀)
 
 abbrev μ-loop : tie.MeasureT-loop
-μ-loop out₀ memory n o₀ k₀ out o k = length memory - k
+μ-loop out₀ memory n o₀ k₀ out o k = n - k
 
 loop-holds : tie.Need-loop-holds Inv-loop μ-loop
 loop-holds c = search needs
