@@ -71,7 +71,14 @@ fn one_line(run: Run, memory: &mut [u32], out: &mut [u8], line: &mut [u8], buffe
 }
 
 // Takes a line's turn, and puts its answer line and the state after it.
-fn replay(rec: Record, input: Input, output: Output, memory: &mut [u32], out: &mut [u8], line: Line) -> Run
+fn replay(
+    rec: Record,
+    input: Input,
+    output: Output,
+    memory: &mut [u32],
+    out: &mut [u8],
+    line: Line,
+) -> Run
     requires { ⌜ 19 ≤ length (now out) ⌝ }
 {
     let reply = turn::turn(rec, memory, line);
