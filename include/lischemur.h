@@ -1,0 +1,165 @@
+/*
+ * lischemur.h: the heap's door, for C11 and C++17. Link libdoor.a; it needs nothing else.
+ *
+ * A heap is a run of 32-bit words that you lend to each call, and a record beside it. Both are yours: the library keeps
+ * nothing between calls. Offsets are bytes from the run's start, and a payload is named by its offset.
+ *
+ *     static LISCHEMUR_MEMORY(1023) memory;
+ *     static lischemur_record record;
+ *
+ *     lischemur_make(&record, memory.heap, 1023, 1023);
+ *     lischemur_reply r = lischemur_hand_out(&record, memory.heap, 1023, 100);
+ *     if (r.number == LISCHEMUR_DONE) {
+ *         void *payload = lischemur_pointer(memory.heap, r.value);
+ *         ...
+ *         lischemur_take_back(&record, memory.heap, 1023, r.value);
+ *     }
+ *
+ * Every call accepts any record, any words and any number: what is damaged or makes no sense is refused by number, and a
+ * refusal changes nothing. That is proved. What a caller owes, because no proof can see it:
+ *   - `heap` is not null, not even for 0 words, is aligned for uint32_t, and is followed by `heap_words` words;
+ *   - record and words do not overlap, and nothing else reads or writes them during a call (mask interrupts, or hold a lock);
+ *   - `fresh` holds true or false, as a bool does.
+ *
+ * A slice of Rattle is a pointer and a 64-bit count in C, and the library is built for x86-64: the assertions at the end of
+ * this file stop a compiler that lays things out otherwise.
+ */
+#ifndef LISCHEMUR_H
+#define LISCHEMUR_H
+
+#include <stdbool.h>
+#include <stddef.h>
+#include <stdint.h>
+
+#ifdef __cplusplus
+#define LISCHEMUR_ALIGNED(bytes) alignas(bytes)
+#define LISCHEMUR_ASSERT(holds, text) static_assert(holds, text)
+extern "C" {
+#else
+#define LISCHEMUR_ALIGNED(bytes) _Alignas(bytes)
+#define LISCHEMUR_ASSERT(holds, text) _Static_assert(holds, text)
+#endif
+
+/* The limits: a heap has an odd count of words, and a size above the largest is refused. */
+#define LISCHEMUR_LEAST_WORDS UINT32_C(5)
+#define LISCHEMUR_MOST_WORDS UINT32_C(65529)
+#define LISCHEMUR_MOST_SIZE UINT32_C(4294967284)
+
+/*
+ * The type of a run of `words` words whose start is 4 mod 8. Payload offsets are 4 mod 8 too, so that every payload is
+ * 8-aligned. The calls do not mind another start; the payloads are then only 4-aligned.
+ */
+#define LISCHEMUR_MEMORY(words)                 \
+    struct {                                    \
+        LISCHEMUR_ALIGNED(8) uint32_t unused;   \
+        uint32_t heap[words];                   \
+    }
+
+/* What a reply says. */
+enum lischemur_number {
+    LISCHEMUR_DONE = 0,       /* the value is the payload's offset for a handout, else 0 */
+    LISCHEMUR_ZERO_SIZE = 1,  /* zero bytes were asked for */
+    LISCHEMUR_TOO_LARGE = 2,  /* more than LISCHEMUR_MOST_SIZE bytes were asked for */
+    LISCHEMUR_NO_FIT = 3,     /* neither the cached chunk nor a listed one serves */
+    LISCHEMUR_NOT_LIVE = 4,   /* the offset is no payload's that is handed out: a second free, say */
+    LISCHEMUR_DAMAGED = 5,    /* record and words are not sound together, or no heap was made */
+    LISCHEMUR_BAD_LENGTH = 6, /* a heap cannot be made of so many words */
+    LISCHEMUR_NO_FRAME = 7    /* the trace program's alone: no call here replies it */
+};
+
+/*
+ * What the heap knows beside its words. All bytes zero is the empty record, as static memory is at reset. Read it as you
+ * like; write it by calls alone. A link is 0 to 5 for a list's sentinel, and w + 6 for the chunk whose header is word w.
+ */
+typedef struct lischemur_record {
+    uint16_t prev[6]; /* of each list, the link of its last chunk */
+    uint16_t next[6]; /* of each list, the link of its first chunk */
+    uint32_t words;   /* how many words the heap has; 0 before one is made */
+    uint32_t in_use;  /* the sum of the used chunks' lengths, headers and the cached chunk included */
+    uint32_t peak;    /* the largest that sum has been */
+    uint32_t high;    /* high water: the largest end, in bytes, of a chunk that was handed out */
+    uint16_t cached;  /* the link of the cached chunk, 0 for none */
+    bool fresh;       /* high water has risen since the mark was last read */
+} lischemur_record;
+
+/* What making, handing out and taking back reply. */
+typedef struct lischemur_reply {
+    uint32_t number;   /* an enum lischemur_number */
+    uint32_t value;    /* the payload's offset for a handout that is done, else 0 */
+    uint32_t compared; /* how many free chunks were compared with the size */
+} lischemur_reply;
+
+/* What the mark says. */
+typedef struct lischemur_marking {
+    int64_t mark;            /* high water less 108 bytes a stacklet; 0 if nothing changed */
+    uint32_t changed;        /* 1 if high water has risen since the mark was last read, else 0 */
+    lischemur_record record; /* the record with its flag off: store it in the old one's place */
+} lischemur_marking;
+
+/*
+ * Makes a heap of the whole run, and starts its record anew whatever that held. `words` says once more how many words the
+ * heap is to have: unless it is `heap_words`, odd, and from LISCHEMUR_LEAST_WORDS to LISCHEMUR_MOST_WORDS, the reply is 6
+ * and the record stays as it was. No payload of an earlier heap on these words is live afterwards.
+ */
+lischemur_reply lischemur_make(lischemur_record *record, uint32_t *heap, uint64_t heap_words, uint32_t words);
+
+/* Hands out a payload of at least `size` bytes, or replies 1, 2, 5 or 3, tested in that order. */
+lischemur_reply lischemur_hand_out(lischemur_record *record, uint32_t *heap, uint64_t heap_words, uint32_t size);
+
+/* Takes back the payload that begins at this offset, or replies 5 or 4, tested in that order. */
+lischemur_reply lischemur_take_back(lischemur_record *record, uint32_t *heap, uint64_t heap_words, uint32_t payload);
+
+/* 1 if record and words are sound together, else 0. Handing out and taking back test this themselves. */
+uint32_t lischemur_audit(lischemur_record record, const uint32_t *heap, uint64_t heap_words);
+
+/* The mark: high water less 108 bytes for each of so many stacklets, if it has risen since it was last read. */
+lischemur_marking lischemur_mark(lischemur_record record, uint32_t stacklets);
+
+/* Bytes in use, the most that were, and high water: the record's fields of these names, of any record. */
+uint32_t lischemur_in_use(lischemur_record record);
+uint32_t lischemur_peak(lischemur_record record);
+uint32_t lischemur_high_water(lischemur_record record);
+
+/* The payload at an offset that a handout replied. */
+static inline void *lischemur_pointer(uint32_t *heap, uint32_t payload)
+{
+    return (unsigned char *)heap + payload;
+}
+
+/* The offset of a payload, for taking it back. A pointer from elsewhere gives an offset that is not live. */
+static inline uint32_t lischemur_offset(const uint32_t *heap, const void *payload)
+{
+    uintptr_t offset = (uintptr_t)payload - (uintptr_t)heap;
+    return offset < UINT32_MAX ? (uint32_t)offset : UINT32_MAX;
+}
+
+/* Whether payloads of a heap that starts here are 8-aligned. */
+static inline bool lischemur_aligned(const uint32_t *heap)
+{
+    return (uintptr_t)heap % 8 == 4;
+}
+
+LISCHEMUR_ASSERT(sizeof(void *) == 8 && sizeof(bool) == 1, "the library is built for x86-64");
+LISCHEMUR_ASSERT(offsetof(lischemur_record, prev) == 0, "the record's layout");
+LISCHEMUR_ASSERT(offsetof(lischemur_record, next) == 12, "the record's layout");
+LISCHEMUR_ASSERT(offsetof(lischemur_record, words) == 24, "the record's layout");
+LISCHEMUR_ASSERT(offsetof(lischemur_record, in_use) == 28, "the record's layout");
+LISCHEMUR_ASSERT(offsetof(lischemur_record, peak) == 32, "the record's layout");
+LISCHEMUR_ASSERT(offsetof(lischemur_record, high) == 36, "the record's layout");
+LISCHEMUR_ASSERT(offsetof(lischemur_record, cached) == 40, "the record's layout");
+LISCHEMUR_ASSERT(offsetof(lischemur_record, fresh) == 42, "the record's layout");
+LISCHEMUR_ASSERT(sizeof(lischemur_record) == 44, "the record's size");
+LISCHEMUR_ASSERT(offsetof(lischemur_reply, number) == 0, "the reply's layout");
+LISCHEMUR_ASSERT(offsetof(lischemur_reply, value) == 4, "the reply's layout");
+LISCHEMUR_ASSERT(offsetof(lischemur_reply, compared) == 8, "the reply's layout");
+LISCHEMUR_ASSERT(sizeof(lischemur_reply) == 12, "the reply's size");
+LISCHEMUR_ASSERT(offsetof(lischemur_marking, mark) == 0, "the marking's layout");
+LISCHEMUR_ASSERT(offsetof(lischemur_marking, changed) == 8, "the marking's layout");
+LISCHEMUR_ASSERT(offsetof(lischemur_marking, record) == 12, "the marking's layout");
+LISCHEMUR_ASSERT(sizeof(lischemur_marking) == 56, "the marking's size");
+
+#ifdef __cplusplus
+}
+#endif
+
+#endif
