@@ -21,8 +21,8 @@
  *   - record and words do not overlap, and nothing else reads or writes them during a call (mask interrupts, or hold a lock);
  *   - `fresh` holds true or false, as a bool does.
  *
- * A slice of Rattle is a pointer and a 64-bit count in C, and the library is built for x86-64: the assertions at the end of
- * this file stop a compiler that lays things out otherwise.
+ * A slice of Rattle is a pointer and a 64-bit count in C, on every processor. `rt staticlib door` builds the library for
+ * x86-64, `meter/build` for a Cortex-M4; the assertions at the end of this file stop a compiler that lays things out otherwise.
  */
 #ifndef LISCHEMUR_H
 #define LISCHEMUR_H
@@ -139,7 +139,7 @@ static inline bool lischemur_aligned(const uint32_t *heap)
     return (uintptr_t)heap % 8 == 4;
 }
 
-LISCHEMUR_ASSERT(sizeof(void *) == 8 && sizeof(bool) == 1, "the library is built for x86-64");
+LISCHEMUR_ASSERT(sizeof(bool) == 1, "the record's layout");
 LISCHEMUR_ASSERT(offsetof(lischemur_record, prev) == 0, "the record's layout");
 LISCHEMUR_ASSERT(offsetof(lischemur_record, next) == 12, "the record's layout");
 LISCHEMUR_ASSERT(offsetof(lischemur_record, words) == 24, "the record's layout");
