@@ -1,7 +1,9 @@
 // The kernel's door: what firmware links (include/lischemur.h declares it for C).
 //
-// Making, handing out and taking back change a record where it lies; the others take it by value, as the library's own calls do. Each
-// agrees with the call of crate `heap` that it stands for, and accepts any record, any words and any number.
+// Making, handing out and taking back change a record where it lies; document 01 gives this door to no other call. The others take the
+// record by value, which on x86-64 is how C passes and gets back a struct of this size: the audit and the three readers leave it alone, and
+// the mark hands it back with its flag off. Each agrees with the call of crate `heap` that it stands for, and accepts any record, any words
+// and any number. A bool that C reads is a number here, 1 or 0.
 //
 //     reply    an answer as document 01's three numbers
 //     plain    the calls by value that the doors go to
