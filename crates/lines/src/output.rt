@@ -22,7 +22,7 @@ impl Output {
 }
 
 // Room for n more bytes: what waits is written out if there is none.
-pub fn room(output: Output, buffer: &[u8], n: usize) -> Output
+pub(crate) fn room(output: Output, buffer: &[u8], n: usize) -> Output
     requires { ⌜ n ≤ length (now buffer) ⌝ }
     ensures { λ r. ⌜ r .used + n ≤ length (now (buffer .entry)) ⌝ }
 {

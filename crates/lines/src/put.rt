@@ -1,24 +1,33 @@
-// What is put into the output buffer: an answer line, a number, a byte.
-ghost use Prim.Native.Nat.{_≤_};
-ghost use lib.ListN.{length};
+// What is put into the output buffer: an answer line, a number, a byte. A buffer that has no room for an answer line fails: nothing is put.
 use super::output::Output;
 use super::output::room;
 
+// The bytes of an answer line.
+const LINE: usize = 19;
+
 // Puts an answer line.
-pub fn put_answer(output: Output, out: &mut [u8], number: u8, value: u32, compared: u32) -> Output
-    requires { ⌜ 19 ≤ length (now out) ⌝ }
-{
-    let mut o = room(output, out, 19);
+pub fn put_answer(output: Output, out: &mut [u8], number: u8, value: u32, compared: u32) -> Output {
+    if out.len() < LINE {
+        return Output {
+            used: output.used,
+            failed: true,
+        };
+    }
+    let mut o = room(output, out, LINE);
     let used = o.used;
-    frame::write_answer(&mut out[used..used + 19], number, value, compared);
-    o.used = used + 19;
+    frame::write_answer(&mut out[used..used + LINE], number, value, compared);
+    o.used = used + LINE;
     o
 }
 
 // Puts a space and a number's eight digits.
-pub fn put_number(output: Output, out: &mut [u8], number: u32) -> Output
-    requires { ⌜ 19 ≤ length (now out) ⌝ }
-{
+pub fn put_number(output: Output, out: &mut [u8], number: u32) -> Output {
+    if out.len() < LINE {
+        return Output {
+            used: output.used,
+            failed: true,
+        };
+    }
     let spaced = put_byte(output, out, 32);
     let mut o = room(spaced, out, 8);
     let used = o.used;
@@ -28,9 +37,13 @@ pub fn put_number(output: Output, out: &mut [u8], number: u32) -> Output
 }
 
 // Puts one byte.
-pub fn put_byte(output: Output, out: &mut [u8], byte: u8) -> Output
-    requires { ⌜ 19 ≤ length (now out) ⌝ }
-{
+pub fn put_byte(output: Output, out: &mut [u8], byte: u8) -> Output {
+    if out.len() < LINE {
+        return Output {
+            used: output.used,
+            failed: true,
+        };
+    }
     let mut o = room(output, out, 1);
     let used = o.used;
     out[used] = byte;
