@@ -1,0 +1,93 @@
+// A row of the map: kind, header offset and length of a chunk; its line read; and whether it can follow the rows before it.
+// Contracts cite specs/Reading.antt.
+ghost use mathlib.Core.Path.{_≡_};
+ghost use Rattle.map.specs.Reading.{rowIn, followsᵇ};
+use frame::Field;
+
+// What the map's calls answer: done, with the number of chunks; the heap is damaged; the room is too short; the first bad line, from 1.
+pub enum Answer {
+    Done(usize),
+    Damaged,
+    NoRoom,
+    BadLine(usize),
+}
+
+// A chunk on the map: 16 free, 17 live, 18 cached; the byte of its header; its length in bytes.
+pub struct Row {
+    pub kind: u32,
+    pub at: u32,
+    pub len: u32,
+}
+
+// A line read: a row, or no row.
+pub(crate) enum Line {
+    Good(Row),
+    Bad,
+}
+
+// Where a reader stands: the byte where the next chunk begins, whether the last one is free, and how many were cached.
+pub(crate) struct Place {
+    pub(crate) at: u32,
+    pub(crate) free: bool,
+    pub(crate) held: u32,
+}
+
+// Reads a line, given with its line feed.
+pub(crate) fn read_row(line: &[u8]) -> Line
+    ensures { λ r. ⌜ r ≡ rowIn (now (line .entry)) ⌝ }
+{
+    if line.len() != 19 {
+        return Line::Bad;
+    }
+    if line[18] != 10 {
+        return Line::Bad;
+    }
+    let first = frame::read_field(&line[0..2]);
+    let Field::Number(kind) = first else {
+        return Line::Bad;
+    };
+    let second = frame::read_field(&line[2..10]);
+    let Field::Number(at) = second else {
+        return Line::Bad;
+    };
+    let third = frame::read_field(&line[10..18]);
+    let Field::Number(len) = third else {
+        return Line::Bad;
+    };
+    Line::Good(Row { kind, at, len })
+}
+
+// Whether a row can follow at this place, with one cache place.
+pub(crate) fn follows(p: Place, r: Row) -> bool
+    ensures { λ q. ⌜ q ≡ followsᵇ 65529 1 p r ⌝ }
+{
+    if r.kind < 16 {
+        return false;
+    }
+    if 18 < r.kind {
+        return false;
+    }
+    if r.at != p.at {
+        return false;
+    }
+    if r.len < 16 {
+        return false;
+    }
+    if r.len % 8 != 0 {
+        return false;
+    }
+    // 65,529 words have 262,112 bytes before the guard
+    if 262112 < r.at {
+        return false;
+    }
+    if 262112 - r.at < r.len {
+        return false;
+    }
+    if p.free && r.kind == 16 {
+        return false;
+    }
+    if r.kind == 18 {
+        return p.held == 0;
+    }
+    p.held <= 1
+}
