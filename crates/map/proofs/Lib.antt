@@ -1,0 +1,3 @@
+-- The laws, and what is claimed. A reader starts at Maps.
+pub mod Lines
+pub mod Writing

@@ -1,0 +1,78 @@
+-- `map::write::count_chunks` meets its contract. Invariant: those counted and those from here on are all, the bytes from here on end in time, and
+-- no more are counted than there are words. Measure: the fuel.
+use mathlib.Core.Path.{_≡_, ap}
+use Prim.Native.Nat.{_+_, _≤_}
+use native.Mathlib.Omega.{arith}
+use lib.ListN.{length}
+use borrow.Author.Needs.{needs}
+use Rattle.words.specs.Tags.{at}
+use Rattle.rules.specs.Chunks.{total}
+use Rattle.rules.specs.Test.{tile}
+use Rattle.map.specs.Writing.{chunksIn}
+use Rattle.map.proofs.Writing.{tile-out, tile-guard, total-on, length-on}
+use Rattle.map.proofs.write.count_chunks.Statement.{statement}
+use Rattle.map.proofs.write.count_chunks.Tie as tie
+
+abbrev Inv-loop : tie.InvT-loop
+Inv-loop heap fuel₀ e₀ n₀ fuel e n =
+    (n + length (tile (at heap) fuel e) ≡ length (chunksIn heap)) × (e + total (tile (at heap) fuel e) ≤ 262112) × (n + fuel ≡ length heap)
+
+abbrev μ-loop : tie.MeasureT-loop
+μ-loop heap fuel₀ e₀ n₀ fuel e n = fuel
+
+loop-holds : tie.Need-loop-holds Inv-loop μ-loop
+unfolding chunksIn
+loop-holds c = (omega arith, omega (arith, c .before .pre), omega arith)
+
+cast-t8 : tie.Need-cast-t8 Inv-loop μ-loop
+cast-t8 c = search needs
+
+get-hdr-chunk-size-requires : tie.Need-get-hdr-chunk-size-requires Inv-loop μ-loop
+get-hdr-chunk-size-requires c κs = search needs
+
+returns : tie.Need-returns Inv-loop μ-loop
+returns c =
+    omega (
+      arith,
+      c .before .before .before .loop .inv .0,
+      ap length (tile-guard (c .before .before .before .before .before .args .heap .now) (c .before .before .before .loop .e) _ (c .before .get-hdr-chunk-size .ensures) _ (c .before .before .loop-test .taken) (c .if1 .taken)),
+    )
+
+add-e : tie.Need-add-e Inv-loop μ-loop
+add-e c = omega (arith, total-on (c .before .before .before .before .before .args .heap .now) (c .before .before .before .loop .e) _ (c .before .get-hdr-chunk-size .ensures) _ (c .before .before .loop-test .taken) (c .if1 .left))
+
+add-n : tie.Need-add-n Inv-loop μ-loop
+add-n c = search needs
+
+sub-fuel : tie.Need-sub-fuel Inv-loop μ-loop
+sub-fuel c = search needs
+
+loop-less : tie.Need-loop-less Inv-loop μ-loop
+loop-less c = omega arith
+
+loop-again : tie.Need-loop-again Inv-loop μ-loop
+loop-again c = (
+  omega (arith, length-on (c .before .before .before .before .before .args .heap .now) (c .before .before .before .loop .e) _ (c .before .get-hdr-chunk-size .ensures) _ (c .before .before .loop-test .taken) (c .if1 .left)),
+  omega (arith, total-on (c .before .before .before .before .before .args .heap .now) (c .before .before .before .loop .e) _ (c .before .get-hdr-chunk-size .ensures) _ (c .before .before .loop-test .taken) (c .if1 .left)),
+  omega arith,
+)
+
+returns-2 : tie.Need-returns-2 Inv-loop μ-loop
+returns-2 c = omega (arith, c .before .loop .inv .0, ap length (tile-out (c .before .before .before .args .heap .now) _ (c .before .loop .e) (c .loop-test .left)))
+
+pub count-chunks-spec : {M : Type 1} → statement M
+count-chunks-spec =
+    tie.close
+    (tie.spec
+    Inv-loop
+    μ-loop
+    loop-holds
+    cast-t8
+    get-hdr-chunk-size-requires
+    returns
+    add-e
+    add-n
+    sub-fuel
+    loop-less
+    loop-again
+    returns-2)

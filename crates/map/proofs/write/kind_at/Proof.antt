@@ -1,0 +1,30 @@
+-- `map::write::kind_at` meets its contract: a free chunk, the cached one, any other used one.
+use borrow.Author.Needs.{needs}
+use Rattle.map.proofs.Writing.{kind-free, kind-cached, kind-live}
+use Rattle.map.proofs.write.kind_at.Statement.{statement}
+use Rattle.map.proofs.write.kind_at.Tie as tie
+
+cast-t6 : tie.Need-cast-t6
+cast-t6 c = search needs
+
+is-this-free-requires : tie.Need-is-this-free-requires
+is-this-free-requires c κs = search needs
+
+returns : tie.Need-returns
+returns c = kind-free (c .before .before .before .args .heap .now) (c .before .before .before .args .cached .0) (c .before .before .before .args .e) _ (c .before .is-this-free .ensures) (c .if1 .taken)
+
+add-if2 : tie.Need-add-if2
+add-if2 c = search needs
+
+cast-if2 : tie.Need-cast-if2
+cast-if2 c = search needs
+
+returns-2 : tie.Need-returns-2
+returns-2 c = kind-cached (c .before .before .before .before .before .args .heap .now) (c .before .before .before .before .before .args .cached .0) (c .before .before .before .before .before .args .e) _ (c .before .before .before .is-this-free .ensures) (c .before .before .if1 .left) (c .if2 .taken)
+
+returns-3 : tie.Need-returns-3
+returns-3 c = kind-live (c .before .before .before .before .before .args .heap .now) (c .before .before .before .before .before .args .cached .0) (c .before .before .before .before .before .args .e) _ (c .before .before .before .is-this-free .ensures) (c .before .before .if1 .left) (c .if2 .left)
+
+pub kind-at-spec : {M : Type 1} → statement M
+kind-at-spec =
+    tie.close (tie.spec cast-t6 is-this-free-requires returns add-if2 cast-if2 returns-2 returns-3)

@@ -1,0 +1,125 @@
+-- `map::write::write_lines` meets its contract. Invariant: the lines from here on, laid over the room as it is, give what all lines over the first room
+-- give; the bytes from here on end in time; and the room has a line's bytes for each chunk that is left. Measure: the fuel.
+use mathlib.Core.Path.{_≡_, refl, sym, _∙_}
+use mathlib.Core.List.{List}
+use Prim.Native.Nat.{ℕ, _+_, _-_, _*_, _≤_}
+use native.Mathlib.Omega.{arith}
+use lib.ListN.{length}
+use borrow.Rule.Slice.PartMut.{same-len-mid}
+use borrow.Author.Needs.{needs}
+use Rattle.words.specs.Tags.{at}
+use Rattle.audit.specs.Shown.{cachedOf}
+use Rattle.rules.specs.Chunks.{total}
+use Rattle.rules.specs.Test.{tile}
+use Rattle.map.specs.Rows.{linesOf}
+use Rattle.map.specs.Layout.{mapOf}
+use Rattle.map.specs.Writing.{chunksIn, overlaid}
+use Rattle.map.proofs.Writing.{tile-out, tile-guard, total-on, length-on, lines-on, lines-out}
+use Rattle.map.proofs.write.write_lines.Statement.{statement}
+use Rattle.map.proofs.write.write_lines.Tie as tie
+
+abbrev Inv-loop : tie.InvT-loop
+Inv-loop heap cached room₀ fuel₀ e₀ i₀ room fuel e i =
+    (overlaid 0 (linesOf (mapOf (cachedOf (cached .0)) 0 (chunksIn heap))) room₀ ≡ overlaid i (linesOf (mapOf (cachedOf (cached .0)) e (tile (at heap) fuel e))) room)
+    × (e + total (tile (at heap) fuel e) ≤ 262112) × (i + 19 * length (tile (at heap) fuel e) ≤ length room) × (length room ≡ length room₀)
+
+abbrev μ-loop : tie.MeasureT-loop
+μ-loop heap cached room₀ fuel₀ e₀ i₀ room fuel e i = fuel
+
+loop-holds : tie.Need-loop-holds Inv-loop μ-loop
+unfolding chunksIn
+loop-holds c = (refl, omega (arith, c .before .before .pre .0), omega (arith, c .before .before .pre .1), refl)
+
+cast-write-answer : tie.Need-cast-write-answer Inv-loop μ-loop
+cast-write-answer c = search needs
+
+get-hdr-chunk-size-requires : tie.Need-get-hdr-chunk-size-requires Inv-loop μ-loop
+get-hdr-chunk-size-requires c κs = search needs
+
+same-length : tie.Need-same-length Inv-loop μ-loop
+same-length c = c .before .before .before .loop .inv .3
+
+returns : tie.Need-returns Inv-loop μ-loop
+returns c =
+    sym
+    (c .before .before .before .loop .inv .0 ∙ lines-out _ _ (c .before .before .before .loop .e) _ _
+    (tile-guard (c .before .before .before .before .before .before .args .heap .now) (c .before .before .before .loop .e) _ (c .before .get-hdr-chunk-size .ensures) _ (c .before .before .loop-test .taken) (c .if1 .taken)))
+
+kind-at-requires : tie.Need-kind-at-requires Inv-loop μ-loop
+kind-at-requires c κs = search needs
+
+add-write-answer : tie.Need-add-write-answer Inv-loop μ-loop
+add-write-answer c =
+    omega (arith, length-on (c .before .before .before .before .before .before .before .args .heap .now) (c .before .before .before .before .loop .e) _ (c .before .before .get-hdr-chunk-size .ensures) _ (c .before .before .before .loop-test .taken) (c .before .if1 .left))
+
+sub-write-answer : tie.Need-sub-write-answer Inv-loop μ-loop
+sub-write-answer c = search needs
+
+part-write-answer-start : tie.Need-part-write-answer-start Inv-loop μ-loop
+part-write-answer-start c = search needs
+
+part-write-answer-end : tie.Need-part-write-answer-end Inv-loop μ-loop
+part-write-answer-end c =
+    omega (arith, length-on (c .before .before .before .before .before .before .before .args .heap .now) (c .before .before .before .before .loop .e) _ (c .before .before .get-hdr-chunk-size .ensures) _ (c .before .before .before .loop-test .taken) (c .before .if1 .left))
+
+write-answer-requires : tie.Need-write-answer-requires Inv-loop μ-loop
+write-answer-requires c κs = search needs
+
+add-e : tie.Need-add-e Inv-loop μ-loop
+add-e c = omega (arith, total-on (c .before .before .before .before .before .before .before .before .before .before .before .args .heap .now) (c .before .before .before .before .before .before .before .before .loop .e) _ (c .before .before .before .before .before .before .get-hdr-chunk-size .ensures) _ (c .before .before .before .before .before .before .before .loop-test .taken) (c .before .before .before .before .before .if1 .left))
+
+add-i : tie.Need-add-i Inv-loop μ-loop
+add-i c = omega (arith, length-on (c .before .before .before .before .before .before .before .before .before .before .before .args .heap .now) (c .before .before .before .before .before .before .before .before .loop .e) _ (c .before .before .before .before .before .before .get-hdr-chunk-size .ensures) _ (c .before .before .before .before .before .before .before .loop-test .taken) (c .before .before .before .before .before .if1 .left))
+
+sub-fuel : tie.Need-sub-fuel Inv-loop μ-loop
+sub-fuel c = search needs
+
+loop-less : tie.Need-loop-less Inv-loop μ-loop
+loop-less c = omega arith
+
+loop-again : tie.Need-loop-again Inv-loop μ-loop
+loop-again c =
+    let ws : List ℕ = c .before .before .before .before .before .before .before .before .before .before .before .args .heap .now in
+    let here = c .before .before .before .before .before .before .before .before .loop in
+    let size = c .before .before .before .before .before .before .get-hdr-chunk-size .ensures in
+    let some = c .before .before .before .before .before .before .before .loop-test .taken in
+    let long = c .before .before .before .before .before .if1 .left in
+    let w : here .i + 19 - here .i ≡ 19 = omega arith in
+    let kept = same-len-mid (here .i) (here .i + 19 - here .i) (here .room) (c .before .before .write-answer .last .0) (c .before .before .write-answer .kept .0) in (
+      here .inv .0 ∙ lines-on _ ws (here .room) _ (here .fuel) (here .e) (here .i) _ _ (here .i + 19 - here .i) size some long
+          (c .before .before .before .before .kind-at .ensures) w (here .inv .2) (c .before .before .write-answer .ensures),
+      omega (arith, total-on ws (here .e) _ size (here .fuel) some long),
+      omega (arith, kept, length-on ws (here .e) _ size (here .fuel) some long),
+      kept ∙ here .inv .3,
+    )
+
+same-length-2 : tie.Need-same-length-2 Inv-loop μ-loop
+same-length-2 c = c .before .loop .inv .3
+
+returns-2 : tie.Need-returns-2 Inv-loop μ-loop
+returns-2 c = sym (c .before .loop .inv .0 ∙ lines-out _ _ (c .before .loop .e) _ _ (tile-out (c .before .before .before .before .args .heap .now) _ (c .before .loop .e) (c .loop-test .left)))
+
+pub write-lines-spec : {M : Type 1} → statement M
+write-lines-spec =
+    tie.close
+    (tie.spec
+    Inv-loop
+    μ-loop
+    loop-holds
+    cast-write-answer
+    get-hdr-chunk-size-requires
+    same-length
+    returns
+    kind-at-requires
+    add-write-answer
+    sub-write-answer
+    part-write-answer-start
+    part-write-answer-end
+    write-answer-requires
+    add-e
+    add-i
+    sub-fuel
+    loop-less
+    loop-again
+    same-length-2
+    returns-2)
