@@ -4,3 +4,4 @@ pub mod Layout
 pub mod Reading
 pub mod Answer
 pub mod Calls
+pub mod Claims
