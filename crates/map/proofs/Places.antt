@@ -96,8 +96,15 @@ module _ (most places : ℕ) where
   pub true-fits : (p : Place) (r : Row) → Fits p r → followsᵇ most places p r ≡ true
   unfolding followsᵇ
   true-fits p r f =
-      rw (le-leb 16 (r .kind) (f .low), le-leb (r .kind) 18 (f .high), eq-eqb (r .at) (p .at) (f .here), le-leb 16 (r .len) (f .least),
-      eq-eqb (r .len % 8) 0 (f .eights), le-leb (p .at + r .len) (4 * (most - 1)) (f .within), f .apart)
+      rw (
+        le-leb 16 (r .kind) (f .low),
+        le-leb (r .kind) 18 (f .high),
+        eq-eqb (r .at) (p .at) (f .here),
+        le-leb 16 (r .len) (f .least),
+        eq-eqb (r .len % 8) 0 (f .eights),
+        le-leb (p .at + r .len) (4 * (most - 1)) (f .within),
+        f .apart,
+      )
       (le-leb (p .held + bit (eqb (r .kind) cachedKind)) places (f .room))
 
   -- its numbers fit their digits
