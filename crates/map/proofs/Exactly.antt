@@ -14,7 +14,7 @@ use Rattle.map.specs.Layout.{LegalMap}
 use Rattle.map.specs.Reading.{start, Read, rows, bad, readFrom, readAll}
 use Rattle.map.specs.Claims.{LegalStart, FirstBad}
 use Rattle.map.proofs.RowLaws.{length-line}
-use Rattle.map.proofs.Places.{pastAll, Goes, goes-on, goes-last, goes-start, start-goes, map-start, map-some, start-map}
+use Rattle.map.proofs.Places.{pastAll, goes-on, goes-last, goes-start, start-goes, map-start, map-some, start-map}
 use Rattle.map.proofs.Through.{length-lines, beforeAll, all-rows, all-bad, Stopped, Says, read-none, through, read-stop, reads}
 
 -- a line is not nothing

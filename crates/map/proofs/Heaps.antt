@@ -2,28 +2,32 @@
 --     chunks-of-map     the rows of chunks tell those chunks
 --     in-line           they stand in line
 --     few-cached        no more of them are cached than the cache holds
---     map-legal         so the map of legal chunks is legal
+--     cached-same       of two caches with the same map, what one holds the other holds
+--     map-legal         the map of legal chunks is legal
 --     chunks-shown      the headers of a sound state give its model's chunks, for any edition
-use mathlib.Core.Path.{_≡_, refl, ap, _∙_}
+use mathlib.Core.Path.{_≡_, refl, sym, ap, _∙_}
 use mathlib.Core.Bool.{Bool, true, false, not}
 use mathlib.Core.List.{List, [], _∷_}
-use Prim.Native.Nat.{ℕ, suc, _+_, _-_, _*_, _/_, _≤_, _<_}
+use Prim.Native.Nat.{ℕ, suc, _+_, _-_, _*_, _≤_, _<_}
 use native.Mathlib.Omega.{arith}
 use lib.Dec.{eqb, leb}
 use lib.ListN.{length}
-use borrow.Author.Tests.{eqb-true, leb-true, leb-false, le-leb, lt-leb}
+use borrow.Author.Tests.{eqb-true, leb-true, le-leb, lt-leb}
 use Rattle.words.specs.Choice.{pick, bit}
 use Rattle.rules.specs.Chunks.{Chunk, total, Legal, Calm}
 use Rattle.rules.specs.Ops.{Ops}
-use Rattle.rules.specs.Rules.{Figures, nameOf, listed}
+use Rattle.rules.specs.Lists.{Mem}
+use Rattle.rules.specs.Place.{usedAt}
+use Rattle.rules.specs.Rules.{Figures, byteOf, nameOf, listed}
 use Rattle.rules.specs.Machine.{Model}
-use Rattle.rules.specs.Sound.{Accepted, Shows}
+use Rattle.rules.specs.Sound.{Accepted, CacheRight, Shows}
 use Rattle.rules.specs.Test.{tile, candidate}
 use Rattle.rules.proofs.Store.{Edition}
+use Rattle.rules.proofs.Follow.{listed-true, listed-false}
 use Rattle.rules.proofs.Decide.{shows-candidate, layout-unique}
 use Rattle.map.specs.declared.rows.Row.{Row}
 use Rattle.map.specs.Rows.{freeKind, liveKind, cachedKind}
-use Rattle.map.specs.Layout.{kindOf, mapOf, chunksOf, cachedIn, InLine, LegalMap}
+use Rattle.map.specs.Layout.{mapOf, chunksOf, cachedIn, InLine, LegalMap}
 
 -- ---- kinds
 
@@ -125,6 +129,59 @@ few-above ks b (c ∷ cs) l =
 -- no more rows are cached than the cache holds
 pub few-cached : (ks : List ℕ) (b : ℕ) (cs : List Chunk) → Legal cs → cachedIn (mapOf ks b cs) ≤ length ks
 few-cached ks b cs l = omega (arith, few-above ks b cs l, above-few (nameOf b) ks)
+
+-- ---- the map tells the cache
+
+-- of two caches that give a used chunk the same kind, both list it or neither
+kind-tells : (k j : Bool) → pick k cachedKind liveKind ≡ pick j cachedKind liveKind → k ≡ j
+kind-tells true true e = refl
+kind-tells true false e = absurd (omega arith)
+kind-tells false true e = absurd (omega arith)
+kind-tells false false e = refl
+
+-- the first row's kind, and the rows after it
+abbrev firstKind : List Row → ℕ
+firstKind [] = 0
+firstKind (r ∷ rs) = r .kind
+
+abbrev others : List Row → List Row
+others [] = []
+others (r ∷ rs) = rs
+
+-- so where the maps are the same, they list the same used chunks
+listed-same : (ks js : List ℕ) (b : ℕ) (cs : List Chunk) (d : ℕ) → mapOf ks b cs ≡ mapOf js b cs → 0 < usedAt cs d
+    → listed (nameOf (b + d)) ks ≡ listed (nameOf (b + d)) js
+unfolding mapOf usedAt
+listed-same ks js b [] d e h = absurd (omega arith)
+listed-same ks js b (c ∷ cs) d e h =
+    go (λ f. listed-same ks js (b + c .len) cs (d - c .len) (ap others e) f) (eqb d 0) refl (leb (c .len) d) refl (c .used) h (ap firstKind e)
+  where
+    go : (0 < usedAt cs (d - c .len) → listed (nameOf (b + c .len + (d - c .len))) ks ≡ listed (nameOf (b + c .len + (d - c .len))) js)
+        → (t : Bool) → eqb d 0 ≡ t → (l : Bool) → leb (c .len) d ≡ l → (u : Bool) → 0 < pick t (pick u (c .len) 0) (pick l (usedAt cs (d - c .len)) 0)
+        → pick u (pick (listed (nameOf b) ks) cachedKind liveKind) freeKind ≡ pick u (pick (listed (nameOf b) js) cachedKind liveKind) freeKind
+        → listed (nameOf (b + d)) ks ≡ listed (nameOf (b + d)) js
+    go ih true q l p true f k =
+        let z = eqb-true d 0 q in
+        let n : b + d ≡ b = omega arith in
+        rw n (kind-tells (listed (nameOf b) ks) (listed (nameOf b) js) k)
+    go ih true q l p false f k = absurd (omega arith)
+    go ih false q true p u f k = let z = leb-true (c .len) d p in let n : b + d ≡ b + c .len + (d - c .len) = omega arith in rw n (ih f)
+    go ih false q false p u f k = absurd (omega arith)
+
+-- and what one cache holds, the other holds too
+pub cached-same : (places : ℕ) (ks js : List ℕ) (cs : List Chunk) → CacheRight places ks cs → mapOf ks 0 cs ≡ mapOf js 0 cs
+    → (x : ℕ) → Mem x ks → Mem x js
+cached-same places ks js cs r e x m = go (listed x ks) refl
+  where
+    same : listed x ks ≡ listed x js
+    same =
+        let u = r .used x m in
+        let n : nameOf (0 + byteOf x) ≡ x = omega (arith, u .0) in
+        rw n at (listed-same ks js 0 cs (byteOf x) e (u .1))
+
+    go : (t : Bool) → listed x ks ≡ t → Mem x js
+    go true q = listed-true x js (sym same ∙ q)
+    go false q = absurd (listed-false x ks q m)
 
 -- ---- the map is legal
 

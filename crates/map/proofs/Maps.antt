@@ -9,6 +9,7 @@
 -- For the heap of narrow links, and any number of cache places:
 --     rows-tell-layout                the rows of chunks tell those chunks
 --     map-of-sound-heap               the rows of a sound state are its model's chunks, with their kinds, and a legal map
+--     same-map-same-heap              two sound states with the same map have the same chunks, the same of them cached
 --     sound-map-read-back             the lines of a sound state's map are read as its rows
 -- For the two calls, whose cases are all there are (`read-or-refused`; a state is sound or not):
 --     what-is-written                 answers 5, 6 and 0 of writing, each with all that is in the room
@@ -24,6 +25,7 @@ use native.Mathlib.Omega.{arith}
 use lib.ListN.{length, take, drop}
 use lib.Seq.{take-at}
 use Rattle.rules.specs.Chunks.{Chunk}
+use Rattle.rules.specs.Lists.{Mem}
 use Rattle.rules.specs.Rules.{Outcome, says}
 use Rattle.rules.specs.Making.{State}
 use Rattle.rules.specs.Machine.{Model}
@@ -42,7 +44,7 @@ use Rattle.map.specs.Claims.{FirstBad}
 use Rattle.map.proofs.Through.{length-lines}
 use Rattle.map.proofs.Exactly.{map-read, read-legal, bad-read, read-first}
 use Rattle.map.proofs.Answers.{length-words, laid-fits, laid-short, written-sound, written-damaged, written-done}
-use Rattle.map.proofs.Heaps.{chunks-of-map, chunks-shown, map-shown}
+use Rattle.map.proofs.Heaps.{chunks-of-map, cached-same, chunks-shown, map-shown}
 
 module _ (most places : ℕ) (digits : 4 * most ≤ 2 ^ 32) where
   -- bytes are read as rows exactly if the rows are a legal map and the bytes are its lines
@@ -90,6 +92,20 @@ map-of-sound-heap places s m h =
     let e : rowsOf s ≡ mapOf (m .figs .cached) 0 (m .cs) =
     λ i. mapOf (h .figs i .cached) 0 (chunks-shown (narrow-edition places) s m h i) in
     (e, rw e (map-shown (narrow-edition places) s m h (m .figs .cached) (h .cache .room)))
+
+-- so two sound states with the same map have the same chunks, the same of them cached
+pub same-map-same-heap : (places : ℕ) (s t : State) (m n : Model) → Shows base 65529 places s m → Shows base 65529 places t n → rowsOf s ≡ rowsOf t
+    → (m .cs ≡ n .cs) × ((x : ℕ) → Iff (Mem x (m .figs .cached)) (Mem x (n .figs .cached)))
+same-map-same-heap places s t m n h g e =
+    let maps : mapOf (m .figs .cached) 0 (m .cs) ≡ mapOf (n .figs .cached) 0 (n .cs) =
+    sym (map-of-sound-heap places s m h .0) ∙ e ∙ map-of-sound-heap places t n g .0 in
+    let chunks : m .cs ≡ n .cs = sym (chunks-of-map (m .figs .cached) 0 (m .cs)) ∙ ap chunksOf maps ∙ chunks-of-map (n .figs .cached) 0 (n .cs) in (
+      chunks,
+      λ x. (
+        cached-same places (m .figs .cached) (n .figs .cached) (m .cs) (h .cache) (maps ∙ ap (mapOf (n .figs .cached) 0) (sym chunks)) x,
+        cached-same places (n .figs .cached) (m .figs .cached) (n .cs) (g .cache) (sym maps ∙ ap (mapOf (m .figs .cached) 0) chunks) x,
+      ),
+    )
 
 -- the lines of a sound state's map are read as its rows
 pub sound-map-read-back : (places : ℕ) (s : State) → Sound base 65529 places s → readAll 65529 places (linesOf (rowsOf s)) ≡ rows (rowsOf s)

@@ -9,10 +9,10 @@ use mathlib.Core.Bool.{Bool, true, false, not}
 use mathlib.Core.List.{List, [], _∷_, _++_}
 use Prim.Native.Nat.{ℕ, _+_, _-_, _*_, _/_, _%_, _^_, _≤_, _<_}
 use native.Mathlib.Omega.{arith}
-use lib.Dec.{eqb, leb}
+use lib.Dec.{eqb}
 use borrow.Author.Tests.{leb-true, eqb-true, le-leb, eq-eqb}
 use Rattle.words.specs.Choice.{bit}
-use Rattle.rules.specs.Chunks.{Chunk, total, Legal, Calm, usedHead, either}
+use Rattle.rules.specs.Chunks.{total, Legal, Calm, usedHead, either}
 use Rattle.rules.specs.Test.{both}
 use Rattle.rules.proofs.Calls.{total-8}
 use Rattle.map.specs.declared.rows.Row.{Row}

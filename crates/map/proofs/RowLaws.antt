@@ -5,7 +5,7 @@
 use mathlib.Core.Path.{_≡_, refl, sym, ap, subst, _∙_}
 use mathlib.Core.Bool.{Bool, true, false, _&&_}
 use mathlib.Core.List.{List, [], _∷_, _++_, append-assoc}
-use Prim.Native.Nat.{ℕ, _+_, _^_, _≤_, _<_}
+use Prim.Native.Nat.{ℕ, _^_, _≤_, _<_}
 use native.Mathlib.Nat.{mod-eq-of-lt}
 use native.Mathlib.Omega.{arith}
 use lib.Dec.{eqb}
@@ -20,7 +20,6 @@ use Rattle.frame.proofs.Laws.Hex.{all-append, value-of-digits, digits-of-value,
 use Rattle.frame.proofs.Laws.Hex as hex
 use Rattle.frame.proofs.Laws.Answer.{length-answer, answer-number, answer-value, answer-compared, answer-digits, answer-end}
 use Rattle.map.specs.declared.rows.Row.{Row}
-use Rattle.map.specs.declared.rows.Line.{Line}
 use Rattle.map.specs.declared.rows.Line.the-variants.{Good, Bad}
 use Rattle.map.specs.Rows.{row, lineOf}
 use Rattle.map.specs.Reading.{rowIn}
