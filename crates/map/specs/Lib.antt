@@ -4,4 +4,5 @@ pub mod Layout
 pub mod Reading
 pub mod Answer
 pub mod Calls
+pub mod Claims
 pub mod Writing

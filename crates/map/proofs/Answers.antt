@@ -1,0 +1,69 @@
+-- THE CALLS' OUTCOMES, case by case. Assumes nothing.
+--     length-words                               n rows have 3 * n words
+--     laid-fits, laid-short                      what is laid into lent room, and room that is too short
+--     written-sound, written-damaged             the map of a sound state, and of a damaged one
+--     written-done                               answer 0: the state is sound, and its lines stand in the room
+use mathlib.Core.Path.{_≡_, refl, sym, ap, _∙_}
+use mathlib.Core.Bool.{Bool, true, false}
+use mathlib.Core.List.{List, [], _∷_, _++_}
+use Prim.Native.Nat.{ℕ, _*_, _≤_, _<_}
+use native.Mathlib.Omega.{arith}
+use lib.Dec.{leb}
+use lib.ListN.{length, drop}
+use borrow.Author.Tests.{le-leb, lt-leb, leb-true}
+use Rattle.words.specs.Choice.{pick}
+use Rattle.rules.specs.Rules.{Outcome, says}
+use Rattle.rules.specs.Making.{State}
+use Rattle.heap.specs.Answer.{soundAt}
+use Rattle.map.specs.declared.rows.Row.{Row}
+use Rattle.map.specs.Rows.{linesOf, wordsOf}
+use Rattle.map.specs.Calls.{laid, rowsOf, written}
+
+-- n rows have 3 * n words
+pub length-words : (rs : List Row) → length (wordsOf rs) ≡ 3 * length rs
+unfolding wordsOf
+length-words [] = refl
+length-words (r ∷ rs) = omega (arith, length-words rs)
+
+module _ (n : ℕ) (xs room : List ℕ) where
+  -- room enough
+  pub laid-fits : length xs ≤ length room → laid n xs room ≡ says 0 n 0 (xs ++ drop (length xs) room)
+  unfolding laid
+  laid-fits h = rw (le-leb (length xs) (length room) h)
+
+  -- too short
+  pub laid-short : length room < length xs → laid n xs room ≡ says 6 0 0 room
+  unfolding laid
+  laid-short h = rw (lt-leb (length xs) (length room) h)
+
+  -- 0 is answered only where it is enough
+  laid-zero : laid n xs room .number ≡ 0 → length xs ≤ length room
+  unfolding laid
+  laid-zero = go (leb (length xs) (length room)) refl
+    where
+      go : (t : Bool) → leb (length xs) (length room) ≡ t
+          → (pick t (says 0 n 0 (xs ++ drop (length xs) room)) (says 6 0 0 room)) .number ≡ 0 → length xs ≤ length room
+      go true e z = leb-true (length xs) (length room) e
+      go false e z = absurd (let k : _≡_ {A = ℕ} 6 0 = z in omega arith)
+
+module _ (s : State) (room : List ℕ) where
+  pub written-sound : soundAt s ≡ true → written s room ≡ laid (length (rowsOf s)) (linesOf (rowsOf s)) room
+  unfolding written
+  written-sound e = rw e
+
+  pub written-damaged : soundAt s ≡ false → written s room ≡ says 5 0 0 room
+  unfolding written
+  written-damaged e = rw e
+
+  -- answer 0: the state is sound, and its lines stand in the room
+  pub written-done : written s room .number ≡ 0
+      → (soundAt s ≡ true) × (written s room ≡ says 0 (length (rowsOf s)) 0 (linesOf (rowsOf s) ++ drop (length (linesOf (rowsOf s))) room))
+  written-done z = go (soundAt s) refl
+    where
+      go : (t : Bool) → soundAt s ≡ t
+          → (soundAt s ≡ true) × (written s room ≡ says 0 (length (rowsOf s)) 0 (linesOf (rowsOf s) ++ drop (length (linesOf (rowsOf s))) room))
+      go true e =
+          let w = written-sound e in
+          let f = laid-zero (length (rowsOf s)) (linesOf (rowsOf s)) room (ap (λ (o : Outcome (List ℕ)). o .number) (sym w) ∙ z) in
+          (e, w ∙ laid-fits (length (rowsOf s)) (linesOf (rowsOf s)) room f)
+      go false e = absurd (let k : _≡_ {A = ℕ} 5 0 = ap (λ (o : Outcome (List ℕ)). o .number) (sym (written-damaged e)) ∙ z in omega arith)
