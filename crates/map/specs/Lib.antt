@@ -2,5 +2,6 @@
 pub mod Rows
 pub mod Layout
 pub mod Reading
+pub mod Steps
 pub mod Answer
 pub mod Calls

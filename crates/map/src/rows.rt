@@ -83,11 +83,14 @@ pub(crate) fn follows(p: Place, r: Row) -> bool
     if 262112 - r.at < r.len {
         return false;
     }
-    if p.free && r.kind == 16 {
-        return false;
-    }
     if r.kind == 18 {
         return p.held == 0;
     }
-    p.held <= 1
+    if 1 < p.held {
+        return false;
+    }
+    if r.kind == 17 {
+        return true;
+    }
+    !p.free
 }
