@@ -1,10 +1,12 @@
--- ONE LINE of a map: laws of `rowIn`, `followsᵇ` and `past` (`specs/Reading.antt`). Assumes nothing.
+-- ONE LINE of a map: laws of `rowIn`, `followsᵇ`, `past` (`specs/Reading.antt`) and `standsᵇ` (`specs/Steps.antt`). Assumes nothing.
 --     row-length, row-end, row-kind, row-offset, row-size, row-is     a line read: what makes it no row, and what it is where nothing does
 --     row-full, row-inside, row-short, row-part     a row's line has nineteen bytes
+--     stands-true, stands-yes, stands-not     a row stands exactly if `Stands`
+--     follows-both, follows-not, follows-rest     it follows where it stands and the rest holds
 --     follows-room     a row that follows ends in an accepted length, and has a cache place
---     follows-over, follows-on, rest-cached, rest-over, rest-live, rest-free     whether a row follows, test by test
+--     follows-cached, follows-over, follows-live, follows-free     the rest, by the kind
 --     past-other     the place after a row that is not cached
-use mathlib.Core.Path.{_≡_, refl}
+use mathlib.Core.Path.{_≡_, refl, sym, _∙_}
 use mathlib.Core.Bool.{Bool, true, false, not, _&&_, and-false}
 use mathlib.Core.List.{List, _++_}
 use Prim.Native.Nat.{ℕ, zero, suc, _+_, _-_, _*_, _%_, _≤_, _<_}
@@ -25,6 +27,7 @@ use Rattle.map.specs.declared.rows.Place.{Place}
 use Rattle.map.specs.declared.rows.Line.the-variants.{Good, Bad}
 use Rattle.map.specs.Rows.{row, freeKind, cachedKind}
 use Rattle.map.specs.Reading.{rowIn, followsᵇ, past}
+use Rattle.map.specs.Steps.{standsᵇ}
 
 -- ---- two tests
 
@@ -115,79 +118,126 @@ row-part bs i = let e : i + 19 - i ≡ 19 = omega arith in rw e
 
 -- ---- a row that follows
 
--- it ends in an accepted length, and has a cache place
-pub follows-room : (most places : ℕ) (p : Place) (r : Row) → followsᵇ most places p r ≡ true
-    → (p .at + r .len ≤ 4 * (most - 1)) × (p .held + bit (eqb (r .kind) cachedKind) ≤ places)
-unfolding followsᵇ
-follows-room most places p r e =
-    let held : Bool = leb (p .held + bit (eqb (r .kind) cachedKind)) places in
-    let calm : Bool = both (not (both (p .free) (eqb (r .kind) freeKind))) held in
-    let ends : Bool = both (leb (p .at + r .len) (4 * (most - 1))) calm in
-    let eight : Bool = both (eqb (r .len % 8) 0) ends in
-    let long : Bool = both (leb 16 (r .len)) eight in
-    let here : Bool = both (eqb (r .at) (p .at)) long in
-    let kind : Bool = both (leb (r .kind) 18) here in
-    let a = both-true (leb 16 (r .kind)) kind e in
-    let b = both-true (leb (r .kind) 18) here (a .1) in
-    let c = both-true (eqb (r .at) (p .at)) long (b .1) in
-    let d = both-true (leb 16 (r .len)) eight (c .1) in
-    let f = both-true (eqb (r .len % 8) 0) ends (d .1) in
-    let g = both-true (leb (p .at + r .len) (4 * (most - 1))) calm (f .1) in
-    let h = both-true (not (both (p .free) (eqb (r .kind) freeKind))) held (g .1) in
-    (leb-true _ _ (g .0), leb-true _ _ (h .1))
+-- what the first tests of a row say
+abbrev pub Stands : ℕ → ℕ → Row → Type 0
+Stands most b r = (16 ≤ r .kind) × (r .kind ≤ 18) × (r .at ≡ b) × (16 ≤ r .len) × (r .len % 8 ≡ 0) × (b + r .len ≤ 4 * (most - 1))
 
--- what is left to test of a row of a known kind, in its place, with a legal length that ends in an accepted one
-pub follows-on : (p : Place) (r : Row) → 16 ≤ r .kind → r .kind ≤ 18 → r .at ≡ p .at → 16 ≤ r .len → r .len % 8 ≡ 0
-    → r .at ≤ 262112 → r .len ≤ 262112 - r .at
-    → both (not (both (p .free) (eqb (r .kind) freeKind))) (leb (p .held + bit (eqb (r .kind) cachedKind)) 1) ≡ followsᵇ 65529 1 p r
-unfolding followsᵇ
-follows-on p r a b c d e f g =
-    let h : p .at + r .len ≤ 262112 = omega arith in
-    rw (le-leb 16 (r .kind) a, le-leb (r .kind) 18 b, eq-eqb (r .at) (p .at) c, le-leb 16 (r .len) d, eq-eqb (r .len % 8) 0 e, le-leb (p .at + r .len) 262112 h)
+module _ (most b : ℕ) (r : Row) where
+  -- they hold where the row stands
+  pub stands-true : standsᵇ most b r ≡ true → Stands most b r
+  unfolding standsᵇ
+  stands-true e =
+      let ends : Bool = leb (b + r .len) (4 * (most - 1)) in
+      let eight : Bool = both (eqb (r .len % 8) 0) ends in
+      let long : Bool = both (leb 16 (r .len)) eight in
+      let here : Bool = both (eqb (r .at) b) long in
+      let high : Bool = both (leb (r .kind) 18) here in
+      let low = both-true (leb 16 (r .kind)) high e in
+      let k = both-true (leb (r .kind) 18) here (low .1) in
+      let a = both-true (eqb (r .at) b) long (k .1) in
+      let l = both-true (leb 16 (r .len)) eight (a .1) in
+      let m = both-true (eqb (r .len % 8) 0) ends (l .1) in
+      (leb-true _ _ (low .0), leb-true _ _ (k .0), eqb-true _ _ (a .0), leb-true _ _ (l .0), eqb-true _ _ (m .0), leb-true _ _ (m .1))
 
--- a row that does not end there
-pub follows-over : (p : Place) (r : Row) → 16 ≤ r .kind → r .kind ≤ 18 → r .at ≡ p .at → 16 ≤ r .len → r .len % 8 ≡ 0
-    → 262112 < r .at + r .len → false ≡ followsᵇ 65529 1 p r
-unfolding followsᵇ
-follows-over p r a b c d e f =
-    let h : 262112 < p .at + r .len = omega arith in
-    rw (le-leb 16 (r .kind) a, le-leb (r .kind) 18 b, eq-eqb (r .at) (p .at) c, le-leb 16 (r .len) d, eq-eqb (r .len % 8) 0 e, lt-leb (p .at + r .len) 262112 h)
+  -- and it stands where they hold
+  pub stands-yes : Stands most b r → true ≡ standsᵇ most b r
+  unfolding standsᵇ
+  stands-yes h =
+      rw (
+        le-leb 16 (r .kind) (h .0),
+        le-leb (r .kind) 18 (h .1),
+        eq-eqb (r .at) b (h .2),
+        le-leb 16 (r .len) (h .3),
+        eq-eqb (r .len % 8) 0 (h .4),
+        le-leb (b + r .len) (4 * (most - 1)) (h .5),
+      )
 
-module _ (p : Place) (r : Row) where
-  -- what is left, as one test
-  abbrev pub rest : Bool
-  rest = both (not (both (p .free) (eqb (r .kind) freeKind))) (leb (p .held + bit (eqb (r .kind) cachedKind)) 1)
+  -- and nowhere else
+  pub stands-not : (Stands most b r → ⊥) → false ≡ standsᵇ most b r
+  stands-not h = go (standsᵇ most b r) refl
+    where
+      go : (t : Bool) → standsᵇ most b r ≡ t → false ≡ t
+      go true e = absurd (h (stands-true e))
+      go false e = refl
 
-  -- of a cached one: none was cached before
-  pub rest-cached : r .kind ≡ 18 → eqb (p .held) 0 ≡ rest
-  rest-cached h = rw (eq-eqb (r .kind) 18 h, ne-eqb (r .kind) 16 (λ e. omega arith), both-false (p .free)) (go (p .held))
+-- what is left to test of a row that stands
+abbrev pub rest : ℕ → Place → Row → Bool
+rest places p r = both (not (both (p .free) (eqb (r .kind) freeKind))) (leb (p .held + bit (eqb (r .kind) cachedKind)) places)
+
+module _ (most places : ℕ) (p : Place) (r : Row) where
+  -- a row follows where it stands and the rest holds
+  pub follows-both : followsᵇ most places p r ≡ both (standsᵇ most (p .at) r) (rest places p r)
+  unfolding followsᵇ standsᵇ
+  follows-both =
+      go (leb 16 (r .kind)) (leb (r .kind) 18) (eqb (r .at) (p .at)) (leb 16 (r .len)) (eqb (r .len % 8) 0)
+      (leb (p .at + r .len) (4 * (most - 1))) (rest places p r)
+    where
+      go : (a b c d e f g : Bool)
+          → both a (both b (both c (both d (both e (both f g))))) ≡ both (both a (both b (both c (both d (both e f))))) g
+      go false b c d e f g = refl
+      go true false c d e f g = refl
+      go true true false d e f g = refl
+      go true true true false e f g = refl
+      go true true true true false f g = refl
+      go true true true true true f g = refl
+
+  -- one that does not stand does not follow
+  pub follows-not : false ≡ standsᵇ most (p .at) r → false ≡ followsᵇ most places p r
+  follows-not e = rw (follows-both, ← e)
+
+  -- of one that stands the rest decides
+  pub follows-rest : true ≡ standsᵇ most (p .at) r → rest places p r ≡ followsᵇ most places p r
+  follows-rest e = rw (follows-both, ← e)
+
+  -- one that follows ends in an accepted length, and has a cache place
+  pub follows-room : followsᵇ most places p r ≡ true → (p .at + r .len ≤ 4 * (most - 1)) × (p .held + bit (eqb (r .kind) cachedKind) ≤ places)
+  follows-room e =
+      let a = both-true (standsᵇ most (p .at) r) (rest places p r) (sym follows-both ∙ e) in
+      let h : Bool = leb (p .held + bit (eqb (r .kind) cachedKind)) places in
+      let b = both-true (not (both (p .free) (eqb (r .kind) freeKind))) h (a .1) in
+      (stands-true most (p .at) r (a .0) .5, leb-true _ _ (b .1))
+
+module _ (p : Place) (r : Row) (s : true ≡ standsᵇ 65529 (p .at) r) where
+  -- a cached one: none was cached before
+  pub follows-cached : r .kind ≡ 18 → eqb (p .held) 0 ≡ followsᵇ 65529 1 p r
+  follows-cached h =
+      let e : eqb (p .held) 0 ≡ rest 1 p r =
+      rw (eq-eqb (r .kind) 18 h, ne-eqb (r .kind) 16 (λ e. omega arith), both-false (p .free)) (go (p .held)) in
+      e ∙ follows-rest 65529 1 p r s
     where
       go : (n : ℕ) → eqb n 0 ≡ leb (n + 1) 1
       go zero = refl
       go (suc n) = let h : 1 < suc n + 1 = omega arith in rw (lt-leb (suc n + 1) 1 h, ne-eqb (suc n) 0 (λ e. omega arith))
 
   module _ (h : r .kind ≡ 18 → ⊥) where
-    -- of another: at most one was cached before
-    pub rest-over : 1 < p .held → false ≡ rest
-    rest-over l =
+    -- another: at most one was cached before
+    pub follows-over : 1 < p .held → false ≡ followsᵇ 65529 1 p r
+    follows-over l =
         let m : 1 < p .held + 0 = omega arith in
-        rw (ne-eqb (r .kind) 18 h, lt-leb (p .held + 0) 1 m, both-false (not (both (p .free) (eqb (r .kind) 16))))
+        let e : false ≡ rest 1 p r = rw (ne-eqb (r .kind) 18 h, lt-leb (p .held + 0) 1 m, both-false (not (both (p .free) (eqb (r .kind) 16)))) in
+        e ∙ follows-rest 65529 1 p r s
 
-    -- and then of a live one nothing
-    pub rest-live : p .held ≤ 1 → r .kind ≡ 17 → true ≡ rest
-    rest-live l e =
-        let m : p .held + 0 ≤ 1 = omega arith in
-        rw (ne-eqb (r .kind) 18 h, ne-eqb (r .kind) 16 (λ f. omega arith), both-false (p .free), le-leb (p .held + 0) 1 m)
+    module _ (l : p .held ≤ 1) where
+      -- and then a live one follows
+      pub follows-live : r .kind ≡ 17 → true ≡ followsᵇ 65529 1 p r
+      follows-live k =
+          let m : p .held + 0 ≤ 1 = omega arith in
+          let e : true ≡ rest 1 p r =
+          rw (ne-eqb (r .kind) 18 h, ne-eqb (r .kind) 16 (λ f. omega arith), both-false (p .free), le-leb (p .held + 0) 1 m) in
+          e ∙ follows-rest 65529 1 p r s
 
-    -- and of a free one that none stands before it
-    pub rest-free : p .held ≤ 1 → r .kind ≡ 16 → not (p .free) ≡ rest
-    rest-free l e =
-        let m : p .held + 0 ≤ 1 = omega arith in
-        rw (ne-eqb (r .kind) 18 h, eq-eqb (r .kind) 16 e, le-leb (p .held + 0) 1 m) (go (p .free))
-      where
-        go : (t : Bool) → not t ≡ both (not (both t true)) true
-        go true = refl
-        go false = refl
+      -- and a free one where none stands before it
+      pub follows-free : (r .kind ≡ 17 → ⊥) → not (p .free) ≡ followsᵇ 65529 1 p r
+      follows-free n =
+          let t = stands-true 65529 (p .at) r (sym s) in
+          let k : r .kind ≡ 16 = omega arith in
+          let m : p .held + 0 ≤ 1 = omega arith in
+          let e : not (p .free) ≡ rest 1 p r = rw (ne-eqb (r .kind) 18 h, eq-eqb (r .kind) 16 k, le-leb (p .held + 0) 1 m) (go (p .free)) in
+          e ∙ follows-rest 65529 1 p r s
+        where
+          go : (t : Bool) → not t ≡ both (not (both t true)) true
+          go true = refl
+          go false = refl
 
 -- the place after a row that is not cached holds no more cached ones
 pub past-other : (p : Place) (r : Row) → (r .kind ≡ 18 → ⊥) → record { at = p .at + r .len; free = eqb (r .kind) 16; held = p .held } ≡ past p r

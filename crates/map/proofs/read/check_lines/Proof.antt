@@ -36,9 +36,11 @@ add-t10 c = search needs
 
 returns : tie.Need-returns Inv-loop μ-loop
 returns c =
+    let here = c .before .before .before .before in
     sym
-    (c .before .before .before .before .loop .inv .0
-    ∙ tried-bad _ _ _ (c .before .before .before .before .before .before .args .lines .now) _ _ (c .before .before .before .loop-test .taken) (c .before .before .before .before .loop .inv .2) (sym (c .enum-told .given .1) ∙ c .before .before .line-at .ensures))
+    (here .loop .inv .0
+    ∙ tried-bad _ _ _ (here .before .before .args .lines .now) _ _ (c .before .before .before .loop-test .taken) (here .loop .inv .2)
+    (sym (c .enum-told .given .1) ∙ c .before .before .line-at .ensures))
 
 follows-requires : tie.Need-follows-requires Inv-loop μ-loop
 follows-requires c κs = search needs
@@ -48,33 +50,45 @@ add-t11 c = search needs
 
 returns-2 : tie.Need-returns-2 Inv-loop μ-loop
 returns-2 c =
+    let read = c .before .before .before in
+    let here = read .before .before .before .before in
     sym
-    (c .before .before .before .before .before .before .before .loop .inv .0
-    ∙ tried-stuck _ _ _ (c .before .before .before .before .before .before .before .before .before .args .lines .now) _ _ (c .before .before .before .before .before .before .loop-test .taken) (c .before .before .before .before .before .before .before .loop .inv .2) _
-    (sym (c .before .before .before .line .given .1) ∙ c .before .before .before .before .before .line-at .ensures) (sym (not-true _ (c .if1 .taken)) ∙ c .before .follows .ensures))
+    (here .loop .inv .0
+    ∙ tried-stuck _ _ _ (here .before .before .args .lines .now) _ _ (read .before .before .before .loop-test .taken) (here .loop .inv .2) _
+    (sym (read .line .given .1) ∙ read .before .before .line-at .ensures) (sym (not-true _ (c .if1 .taken)) ∙ c .before .follows .ensures))
 
 place-after-requires : tie.Need-place-after-requires Inv-loop μ-loop
 place-after-requires c κs =
-    let room = follows-room 65529 1 _ _ (sym (c .before .follows .ensures) ∙ not-false _ (c .if1 .left)) in
+    let room = follows-room _ _ _ _ (sym (c .before .follows .ensures) ∙ not-false _ (c .if1 .left)) in
     omega arith
 
 add-i : tie.Need-add-i Inv-loop μ-loop
-add-i c = omega (arith, row-inside (c .before .before .before .before .before .before .before .before .before .before .args .lines .now) (c .before .before .before .before .before .before .before .before .loop .i) _ (sym (c .before .before .before .before .before .before .line-at .ensures) ∙ c .before .before .before .before .line .given .1))
+add-i c =
+    let read = c .before .before .before .before in
+    let here = read .before .before .before .before in
+    omega (arith, row-inside (here .before .before .args .lines .now) (here .loop .i) _ (sym (read .before .before .line-at .ensures) ∙ read .line .given .1))
 
 add-n : tie.Need-add-n Inv-loop μ-loop
 add-n c = search needs
 
 loop-less : tie.Need-loop-less Inv-loop μ-loop
-loop-less c = omega (arith, row-inside (c .before .before .before .before .before .before .before .before .before .before .args .lines .now) (c .before .before .before .before .before .before .before .before .loop .i) _ (sym (c .before .before .before .before .before .before .line-at .ensures) ∙ c .before .before .before .before .line .given .1))
+loop-less c =
+    let read = c .before .before .before .before in
+    let here = read .before .before .before .before in
+    omega (arith, row-inside (here .before .before .args .lines .now) (here .loop .i) _ (sym (read .before .before .line-at .ensures) ∙ read .line .given .1))
 
 loop-again : tie.Need-loop-again Inv-loop μ-loop
-loop-again c = (
-  c .before .before .before .before .before .before .before .before .loop .inv .0
-      ∙ tried-on _ _ _ (c .before .before .before .before .before .before .before .before .before .before .args .lines .now) _ _ (c .before .before .before .before .before .before .before .loop-test .taken) (c .before .before .before .before .before .before .before .before .loop .inv .2) _
-      (sym (c .before .before .before .before .line .given .1) ∙ c .before .before .before .before .before .before .line-at .ensures) (sym (not-false _ (c .before .if1 .left)) ∙ c .before .before .follows .ensures) _ (c .place-after .ensures),
-  omega (arith, row-inside (c .before .before .before .before .before .before .before .before .before .before .args .lines .now) (c .before .before .before .before .before .before .before .before .loop .i) _ (sym (c .before .before .before .before .before .before .line-at .ensures) ∙ c .before .before .before .before .line .given .1)),
-  omega arith,
-)
+loop-again c =
+    let read = c .before .before .before .before in
+    let here = read .before .before .before .before in
+    let bytes = here .before .before .args .lines .now in (
+      here .loop .inv .0
+          ∙ tried-on _ _ _ bytes _ _ (read .before .before .before .loop-test .taken) (here .loop .inv .2) _
+          (sym (read .line .given .1) ∙ read .before .before .line-at .ensures)
+          (sym (not-false _ (c .before .if1 .left)) ∙ c .before .before .follows .ensures) _ (c .place-after .ensures),
+      omega (arith, row-inside bytes (here .loop .i) _ (sym (read .before .before .line-at .ensures) ∙ read .line .given .1)),
+      omega arith,
+    )
 
 returns-3 : tie.Need-returns-3 Inv-loop μ-loop
 returns-3 c = sym (c .before .loop .inv .0 ∙ tried-end _ _ _ (c .before .before .before .args .lines .now) _ _ (c .loop-test .left))

@@ -69,7 +69,10 @@ slice-write-room-3 : tie.Need-slice-write-room-3 Inv-loop μ-loop
 slice-write-room-3 c = simp length-set (omega arith)
 
 add-i : tie.Need-add-i Inv-loop μ-loop
-add-i c = omega (arith, row-inside (c .before .before .before .before .before .before .before .before .args .lines .now) (c .before .before .before .before .before .loop .i) _ (sym (c .before .before .before .line-at .ensures) ∙ c .before .line .given .1))
+add-i c =
+    let read = c .before in
+    let here = read .before .before .before .before in
+    omega (arith, row-inside (here .before .before .before .args .lines .now) (here .loop .i) _ (sym (read .before .before .line-at .ensures) ∙ read .line .given .1))
 
 add-k : tie.Need-add-k Inv-loop μ-loop
 add-k c = search needs
@@ -78,14 +81,17 @@ loop-less : tie.Need-loop-less Inv-loop μ-loop
 loop-less c = search needs
 
 loop-again : tie.Need-loop-again Inv-loop μ-loop
-loop-again c = (
-  c .before .before .before .before .before .loop .inv .0
-      ∙ laying-on _ (c .before .before .before .before .before .before .before .before .args .lines .now) (c .before .before .before .before .before .loop .room) _ _ _ (c .before .before .before .before .loop-test .taken) (omega (arith, c .before .before .before .before .before .before .before .before .pre, c .before .before .before .before .before .loop .inv .3))
-      (sym (c .before .line .given .1) ∙ c .before .before .before .line-at .ensures),
-  omega (arith, row-inside (c .before .before .before .before .before .before .before .before .args .lines .now) (c .before .before .before .before .before .loop .i) _ (sym (c .before .before .before .line-at .ensures) ∙ c .before .line .given .1)),
-  omega arith,
-  simp length-set (c .before .before .before .before .before .loop .inv .3),
-)
+loop-again c =
+    let read = c .before in
+    let here = read .before .before .before .before in
+    let bytes = here .before .before .before .args .lines .now in (
+      here .loop .inv .0
+          ∙ laying-on _ bytes (here .loop .room) _ _ _ (read .before .before .before .loop-test .taken)
+          (omega (arith, here .before .before .before .pre, here .loop .inv .3)) (sym (read .line .given .1) ∙ read .before .before .line-at .ensures),
+      omega (arith, row-inside bytes (here .loop .i) _ (sym (read .before .before .line-at .ensures) ∙ read .line .given .1)),
+      omega arith,
+      simp length-set (here .loop .inv .3),
+    )
 
 same-length-2 : tie.Need-same-length-2 Inv-loop μ-loop
 same-length-2 c = search needs

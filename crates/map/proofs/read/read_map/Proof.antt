@@ -19,22 +19,29 @@ enum-known-checked-2 c = search needs
 
 returns-2 : tie.Need-returns-2
 returns-2 c =
-    into-short (c .before .before .before .before .before .before .before .before .args .lines .now) (c .before .before .before .before .before .before .before .before .args .room .now) (c .before .before .before .before .before .if1 .left) _ (sym (c .before .before .checked2 .given .1) ∙ c .before .before .before .before .check-lines .ensures) (c .if2 .taken)
+    let rows = c .before .before in
+    let start = rows .before .before .before .before .before .before in
+    into-short (start .args .lines .now) (start .args .room .now) (rows .before .before .before .if1 .left) _
+    (sym (rows .checked2 .given .1) ∙ rows .before .before .check-lines .ensures) (c .if2 .taken)
 
 lay-rows-requires : tie.Need-lay-rows-requires
 lay-rows-requires c κs = search needs
 
 returns-3 : tie.Need-returns-3
 returns-3 c =
-    into-bad (c .before .before .before .before .before .before .before .args .lines .now) (c .before .before .before .before .before .before .before .args .room .now) (c .before .before .before .before .if1 .left) _ (sym (c .before .checked .given .1) ∙ c .before .before .before .check-lines .ensures)
+    let start = c .before .before .before .before .before .before .before in
+    into-bad (start .args .lines .now) (start .args .room .now) (c .before .before .before .before .if1 .left) _
+    (sym (c .before .checked .given .1) ∙ c .before .before .before .check-lines .ensures)
 
 same-length : tie.Need-same-length
 same-length c = search needs
 
 returns-4 : tie.Need-returns-4
 returns-4 c =
-    into-done (c .before .before .before .before .before .before .before .before .before .before .before .before .args .lines .now) (c .before .before .before .before .before .before .before .before .before .before .before .before .args .room .now) (c .before .before .before .before .before .before .before .before .before .if1 .left) _ (sym (c .before .before .before .before .before .before .checked2 .given .1) ∙ c .before .before .before .before .before .before .before .before .check-lines .ensures) _
-    (c .before .before .before .before .if2 .left) (c .before .before .lay-rows .ensures)
+    let rows = c .before .before .before .before .before .before in
+    let start = rows .before .before .before .before .before .before in
+    into-done (start .args .lines .now) (start .args .room .now) (rows .before .before .before .if1 .left) _
+    (sym (rows .checked2 .given .1) ∙ rows .before .before .check-lines .ensures) _ (c .before .before .before .before .if2 .left) (c .before .before .lay-rows .ensures)
 
 pub read-map-spec : {M : Type 1} → statement M
 read-map-spec =
