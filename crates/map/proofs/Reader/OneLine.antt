@@ -48,15 +48,15 @@ pub row-length : (l : List ℕ) → (length l ≡ 19 → ⊥) → Bad ≡ rowIn 
 unfolding rowIn
 row-length l h = rw (ne-eqb (length l) 19 h)
 
-module _ (l : List ℕ) (h : length l ≡ 19) where
-  -- the digits of a line are those of its fields
-  digits : allDigits (take 18 l) ≡ (allDigits (take 2 l) && (allDigits (take 8 (drop 2 l)) && allDigits (take 8 (drop 10 l))))
-  digits =
-      let a : take 18 l ≡ take 2 l ++ take 16 (drop 2 l) = take-add 2 16 l in
-      let b : take 16 (drop 2 l) ≡ take 8 (drop 2 l) ++ take 8 (drop 8 (drop 2 l)) = take-add 8 8 (drop 2 l) in
-      let d : drop 8 (drop 2 l) ≡ drop 10 l = drop-drop 8 2 l in
-      rw (a, b, d, all-append, all-append)
+-- the digits of a line are those of its fields
+digits : (l : List ℕ) → allDigits (take 18 l) ≡ (allDigits (take 2 l) && (allDigits (take 8 (drop 2 l)) && allDigits (take 8 (drop 10 l))))
+digits l =
+    let a : take 18 l ≡ take 2 l ++ take 16 (drop 2 l) = take-add 2 16 l in
+    let b : take 16 (drop 2 l) ≡ take 8 (drop 2 l) ++ take 8 (drop 8 (drop 2 l)) = take-add 8 8 (drop 2 l) in
+    let d : drop 8 (drop 2 l) ≡ drop 10 l = drop-drop 8 2 l in
+    rw (a, b, d, all-append, all-append)
 
+module _ (l : List ℕ) (h : length l ≡ 19) where
   -- with another byte than a line feed at its end it is no row
   pub row-end : (getD l 18 0 ≡ 10 → ⊥) → Bad ≡ rowIn l
   unfolding rowIn
@@ -67,21 +67,21 @@ module _ (l : List ℕ) (h : length l ≡ 19) where
   unfolding rowIn
   row-kind e =
       let f : allDigits (take 2 l) ≡ false = field-none (take 2 l) (omega (arith, length-take 2 l)) e in
-      rw (eq-eqb (length l) 19 h, digits, f)
+      rw (eq-eqb (length l) 19 h, digits l, f)
 
   -- nor with no offset
   pub row-offset : NoNumber ≡ fieldOf (take 8 (drop 2 l)) → Bad ≡ rowIn l
   unfolding rowIn
   row-offset e =
       let f : allDigits (take 8 (drop 2 l)) ≡ false = field-none (take 8 (drop 2 l)) (omega (arith, length-take 8 (drop 2 l))) e in
-      rw (eq-eqb (length l) 19 h, digits, f, and-false)
+      rw (eq-eqb (length l) 19 h, digits l, f, and-false)
 
   -- nor with no length
   pub row-size : NoNumber ≡ fieldOf (take 8 (drop 10 l)) → Bad ≡ rowIn l
   unfolding rowIn
   row-size e =
       let f : allDigits (take 8 (drop 10 l)) ≡ false = field-none (take 8 (drop 10 l)) (omega (arith, length-take 8 (drop 10 l))) e in
-      rw (eq-eqb (length l) 19 h, digits, f, and-false, and-false)
+      rw (eq-eqb (length l) 19 h, digits l, f, and-false, and-false)
 
   -- with all three it is their row
   pub row-is : (k b n : ℕ) → getD l 18 0 ≡ 10 → Number k ≡ fieldOf (take 2 l) → Number b ≡ fieldOf (take 8 (drop 2 l))
@@ -91,7 +91,7 @@ module _ (l : List ℕ) (h : length l ≡ 19) where
       let f = field-number (take 2 l) k x in
       let g = field-number (take 8 (drop 2 l)) b y in
       let i = field-number (take 8 (drop 10 l)) n z in
-      rw (eq-eqb (length l) 19 h, eq-eqb (getD l 18 0) 10 e, digits, f .0, g .0, i .0, f .1, g .1, i .1)
+      rw (eq-eqb (length l) 19 h, eq-eqb (getD l 18 0) 10 e, digits l, f .0, g .0, i .0, f .1, g .1, i .1)
 
 -- a row's line has nineteen bytes
 pub row-full : (l : List ℕ) (r : Row) → rowIn l ≡ Good r → length l ≡ 19
@@ -99,7 +99,8 @@ unfolding rowIn
 row-full l r = go (eqb (length l) 19) refl
   where
     go : (t : Bool) → eqb (length l) 19 ≡ t
-        → pick (both t (both (allDigits (take 18 l)) (eqb (getD l 18 0) 10))) (Good (row (valueOf (take 2 l)) (valueOf (take 8 (drop 2 l))) (valueOf (take 8 (drop 10 l))))) Bad ≡ Good r
+        → pick (both t (both (allDigits (take 18 l)) (eqb (getD l 18 0) 10)))
+        (Good (row (valueOf (take 2 l)) (valueOf (take 8 (drop 2 l))) (valueOf (take 8 (drop 10 l))))) Bad ≡ Good r
         → length l ≡ 19
     go true e q = eqb-true (length l) 19 e
     go false e q = let z : _≡_ {A = ℕ} 0 1 = cc in absurd (omega arith)

@@ -1,4 +1,5 @@
--- `map::read::check_lines` meets its contract. Invariant: all lines count to what those from byte i on count to, n rows being read. Measure: the bytes left.
+-- `map::read::check_lines` meets its contract. Invariant: all lines count to what those from byte i on count to, after n rows. Measure: the bytes that are
+-- left.
 use mathlib.Core.Path.{_≡_, sym, _∙_}
 use Prim.Native.Nat.{_-_, _≤_}
 use native.Mathlib.Omega.{arith}
@@ -66,7 +67,8 @@ add-i : tie.Need-add-i Inv-loop μ-loop
 add-i c =
     let read = c .before .before .before .before in
     let here = read .before .before .before .before in
-    omega (arith, row-inside (here .before .before .args .lines .now) (here .loop .i) _ (sym (read .before .before .line-at .ensures) ∙ read .line .given .1))
+    let bytes = here .before .before .args .lines .now in
+    omega (arith, row-inside bytes (here .loop .i) _ (sym (read .before .before .line-at .ensures) ∙ read .line .given .1))
 
 add-n : tie.Need-add-n Inv-loop μ-loop
 add-n c = search needs
@@ -75,7 +77,8 @@ loop-less : tie.Need-loop-less Inv-loop μ-loop
 loop-less c =
     let read = c .before .before .before .before in
     let here = read .before .before .before .before in
-    omega (arith, row-inside (here .before .before .args .lines .now) (here .loop .i) _ (sym (read .before .before .line-at .ensures) ∙ read .line .given .1))
+    let bytes = here .before .before .args .lines .now in
+    omega (arith, row-inside bytes (here .loop .i) _ (sym (read .before .before .line-at .ensures) ∙ read .line .given .1))
 
 loop-again : tie.Need-loop-again Inv-loop μ-loop
 loop-again c =

@@ -1,4 +1,5 @@
--- `map::read::lay_rows` meets its contract. Invariant: the room, once the lines from byte i on are laid behind k rows, is what is to be. Measure: the rows left.
+-- `map::read::lay_rows` meets its contract. Invariant: once the lines from byte i on are laid behind the first k rows, the room is what the contract says.
+-- Measure: the rows that are left.
 use mathlib.Core.Path.{_≡_, refl, sym, _∙_}
 use Prim.Native.Nat.{_-_, _≤_}
 use native.Mathlib.Omega.{arith}
@@ -33,7 +34,8 @@ same-length : tie.Need-same-length Inv-loop μ-loop
 same-length c = search needs
 
 returns : tie.Need-returns Inv-loop μ-loop
-returns c = sym (c .before .before .before .before .loop .inv .0 ∙ laying-bad _ _ _ _ _ (sym (c .enum-told .given .1) ∙ c .before .before .line-at .ensures))
+returns c =
+    sym (c .before .before .before .before .loop .inv .0 ∙ laying-bad _ _ _ _ _ (sym (c .enum-told .given .1) ∙ c .before .before .line-at .ensures))
 
 mul-room : tie.Need-mul-room Inv-loop μ-loop
 mul-room c = search needs
@@ -72,7 +74,8 @@ add-i : tie.Need-add-i Inv-loop μ-loop
 add-i c =
     let read = c .before in
     let here = read .before .before .before .before in
-    omega (arith, row-inside (here .before .before .before .args .lines .now) (here .loop .i) _ (sym (read .before .before .line-at .ensures) ∙ read .line .given .1))
+    let bytes = here .before .before .before .args .lines .now in
+    omega (arith, row-inside bytes (here .loop .i) _ (sym (read .before .before .line-at .ensures) ∙ read .line .given .1))
 
 add-k : tie.Need-add-k Inv-loop μ-loop
 add-k c = search needs
