@@ -1,6 +1,7 @@
 -- The laws, what is claimed, and worked maps. A reader starts at Maps.
 pub mod Lines
 pub mod Writing
+pub mod Reader
 pub mod RowLaws
 pub mod Places
 pub mod Through

@@ -6,3 +6,4 @@ pub mod Answer
 pub mod Calls
 pub mod Claims
 pub mod Writing
+pub mod Steps

@@ -1,7 +1,8 @@
 // A row of the map: kind, header offset and length of a chunk; its line read; and whether it can follow the rows before it.
-// Contracts cite specs/Reading.antt.
+// Contracts cite specs/Reading.antt and specs/Steps.antt.
 ghost use mathlib.Core.Path.{_≡_};
 ghost use Rattle.map.specs.Reading.{rowIn, followsᵇ};
+ghost use Rattle.map.specs.Steps.{standsᵇ};
 use frame::Field;
 
 // What the map's calls answer: done, with the number of chunks; the heap is damaged; the room is too short; the first bad line, from 1.
@@ -57,9 +58,9 @@ pub(crate) fn read_row(line: &[u8]) -> Line
     Line::Good(Row { kind, at, len })
 }
 
-// Whether a row can follow at this place, with one cache place.
-pub(crate) fn follows(p: Place, r: Row) -> bool
-    ensures { λ q. ⌜ q ≡ followsᵇ 65529 1 p r ⌝ }
+// Whether a row is of a known kind, begins at this byte, and has a legal length that ends in an accepted one.
+fn stands(at: u32, r: Row) -> bool
+    ensures { λ q. ⌜ q ≡ standsᵇ 65529 at r ⌝ }
 {
     if r.kind < 16 {
         return false;
@@ -67,7 +68,7 @@ pub(crate) fn follows(p: Place, r: Row) -> bool
     if 18 < r.kind {
         return false;
     }
-    if r.at != p.at {
+    if r.at != at {
         return false;
     }
     if r.len < 16 {
@@ -77,17 +78,31 @@ pub(crate) fn follows(p: Place, r: Row) -> bool
         return false;
     }
     // 65,529 words have 262,112 bytes before the guard
-    if 262112 < r.at {
+    if 262112 < at {
         return false;
     }
-    if 262112 - r.at < r.len {
+    if 262112 - at < r.len {
         return false;
     }
-    if p.free && r.kind == 16 {
+    true
+}
+
+// Whether a row can follow at this place, with one cache place.
+pub(crate) fn follows(p: Place, r: Row) -> bool
+    ensures { λ q. ⌜ q ≡ followsᵇ 65529 1 p r ⌝ }
+{
+    let placed = stands(p.at, r);
+    if !placed {
         return false;
     }
     if r.kind == 18 {
         return p.held == 0;
     }
-    p.held <= 1
+    if 1 < p.held {
+        return false;
+    }
+    if r.kind == 17 {
+        return true;
+    }
+    !p.free
 }
