@@ -4,7 +4,7 @@
 
 `chart` is run on histories, cut at many places, and its map is compared with the layout that oracle/model.py has there. `inspect` is run
 on those maps and on MAPS spoiled ones, and its answer is compared with `first_bad` below, which goes by one regular expression and by
-sums of lengths. The drawing's own reading (tools/heapmap) has to agree with both, and of each map its table, bar and picture are checked.
+sums of lengths. The drawing's own reading (tools/heapmap) has to agree with both, and of every third map table, bar and picture are checked.
 """
 
 import importlib.machinery
@@ -82,7 +82,7 @@ def first_bad(data):
     bad += [k + 1 for k in range(good) if at[k] != ends[k]]
     bad += [k + 1 for k in range(good) if lengths[k] < 16 or lengths[k] % 8 or not model.accepted(ends[k + 1] // 4 + 1)]
     bad += [k + 1 for k in range(1, good) if kinds[k - 1] == kinds[k] == b"10"]
-    bad += [k + 1 for k in range(good) if b"12" in kinds[:k] and kinds[k] == b"12"]
+    bad += [k + 1 for k in range(good) if kinds[k] == b"12"][1:]
     return min(bad, default=0)
 
 
@@ -214,7 +214,7 @@ def traces(rng):
     """Frames of histories: the trace list, and random ones of the oracle's."""
     yield (ROOT / "crates/trace/stdin").read_bytes(), 60
     yield b"", 1
-    for seed in range(40):
+    for seed in range(24):
         yield histories.random_history(SEED + seed)[0], 12
 
 
@@ -305,17 +305,18 @@ def check_documents():
 
 def main(arguments):
     """Compare everything."""
-    count = int(arguments[0]) if arguments else 3000
+    count = int(arguments[0]) if arguments else 2500
     rng = random.Random(SEED)
     check_whys()
     check_documents()
     maps = [data for frames, cuts in traces(rng) for data in compare_history(frames, rng, cuts)]
     good = sorted({most_chunks(), *maps} - {NO_MAP})
-    for data in good:
+    for k, data in enumerate(good):
         chunks = compare_inspect(data)
         if chunks is None:
             fail("the map of a heap is refused", data)
-        check_drawing(data, chunks)
+        if k % 3 == 0:
+            check_drawing(data, chunks)
     for data in extremes():
         chunks = compare_inspect(data)
         if chunks is not None:
@@ -325,7 +326,7 @@ def main(arguments):
     for _ in range(count):
         accepted += compare_inspect(spoiled(rng.choice(small), rng)) is not None
     print(
-        "map: %d maps of chart equal the model's, %d of them read and drawn; %d spoiled ones and %d extremes answered as the reader does, %d accepted"
+        "map: %d maps of chart equal the model's, %d different ones read; %d spoiled ones and %d extremes answered as the reader does, %d accepted"
         % (len(maps), len(good), count, len(extremes()), accepted)
     )
 

@@ -3,9 +3,9 @@
 // 00 and the number of chunks in eight digits if it is; 07 and the number of the first bad line, from 1, if not; and eight digits 0. What a map is
 // stands in the crate `map`. A read that fails ends the program with nothing written.
 //
-// The longest heap has 65,529 words, so 262,112 bytes before the guard, and a chunk has at least 16: a map has at most 16,382 lines of
-// nineteen bytes. Hence of 16,383 lines one is bad, whatever comes after them, and the first 16,383 times 19 bytes tell which is the first:
-// no more are read. Three words for each of 16,382 chunks are room enough for every map.
+// The longest heap has 65,529 words, so 262,112 bytes before the guard, and a chunk has at least 16: a map has at most 16,382 lines, and of anything
+// else the first bad line is at most the next. The lines before it have nineteen bytes each, and its own first nineteen tell that it is bad. So the
+// first 16,383 times 19 bytes tell all, and what comes after them is not read. Three words for each of 16,382 chunks are room for every map.
 use map::Answer;
 
 fn main() {
@@ -32,7 +32,7 @@ fn write_reply(answer: Answer, out: &mut [u8]) {
     }
 }
 
-// A number as eight digits can show it; no count of lines that fit in memory here is longer.
+// A number as eight digits show it. No count of lines here comes near their end.
 fn eight_digits(n: usize) -> u32 {
     if n <= 4294967295 {
         n as u32
