@@ -1,14 +1,16 @@
-// Lines of standard input in constant memory, and buffered standard output.
+// Lines of standard input in constant memory, or all of it at once, and buffered standard output.
 //
 //     input    the next line: of a long line only the first bytes are kept, as many as there is room for
+//     whole    the whole input, or as much of it as there is room for
 //     output   a buffer, which is written out when it is full
-//     put      an answer line, a number, a byte into that buffer
+//     put      an answer line, a number, bytes, lines into that buffer
 //
 // The buffers are the caller's. Nothing is proved here but that every call is safe and ends, given that each read and write returns: no
 // contract can say which bytes the system gives.
 mod input;
 mod output;
 mod put;
+mod whole;
 
 pub use input::Input;
 pub use input::next_line;
@@ -18,4 +20,8 @@ pub use output::flush;
 pub use output::flush_if;
 pub use put::put_answer;
 pub use put::put_byte;
+pub use put::put_bytes;
+pub use put::put_lines;
 pub use put::put_number;
+pub use whole::Whole;
+pub use whole::read_whole;

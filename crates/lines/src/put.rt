@@ -1,8 +1,8 @@
-// What is put into the output buffer: an answer line, a number, a byte. A buffer that has no room for an answer line fails: nothing is put.
+// What is put into the output buffer: an answer line, a number, bytes, lines. A buffer that has no room for an answer line fails: nothing is put.
 use super::output::Output;
 use super::output::room;
 
-// The bytes of an answer line.
+// The bytes of an answer line, and of a map's.
 const LINE: usize = 19;
 
 // Puts an answer line.
@@ -49,4 +49,26 @@ pub fn put_byte(output: Output, out: &mut [u8], byte: u8) -> Output {
     out[used] = byte;
     o.used = used + 1;
     o
+}
+
+// Puts bytes, one after the other.
+pub fn put_bytes(output: Output, out: &mut [u8], bytes: &[u8]) -> Output {
+    let mut o = output;
+    let mut k: usize = 0;
+    while k < bytes.len() {
+        o = put_byte(o, out, bytes[k]);
+        k += 1;
+    }
+    o
+}
+
+// Puts the first n lines of nineteen bytes each; fails if there are not so many.
+pub fn put_lines(output: Output, out: &mut [u8], bytes: &[u8], n: usize) -> Output {
+    if bytes.len() / LINE < n {
+        return Output {
+            used: output.used,
+            failed: true,
+        };
+    }
+    put_bytes(output, out, &bytes[0..n * LINE])
 }

@@ -1,14 +1,16 @@
-// The replay: answers frames as the trace program does, and after each answer prints the whole state of the heap in use.
+// The replay: answers frames as the trace program does, and after each answer prints the whole state of the heap in use, and its map.
 //
 // A state is a line of numbers, each eight digits after a space: the words of the heap, bytes in use, peak, high water, the cached chunk's link
-// (0 for none), the flag; the six prev and the six next links of the sentinels; then every word of the heap. The file `stdin` holds requests,
-// and `stdout` the original's states after each, in the same form (tests/trace/README.md): the check of this crate compares them byte by byte.
+// (0 for none), the flag; the six prev and the six next links of the sentinels; then every word of the heap. The lines of the map (W-201) come after
+// it: one for each chunk, none before a heap is made. The file `stdin` holds requests, and `stdout` the original's states and their maps after each,
+// in the same form (tests/trace/README.md): the check of this crate compares them byte by byte.
 ghost use Prim.Native.Nat.{_≤_};
 ghost use lib.ListN.{length};
 use frame::Line;
 use heap::Record;
 use lines::Input;
 use lines::Output;
+use map::Answer;
 use words::Link;
 
 // What goes on from line to line.
@@ -70,7 +72,7 @@ fn one_line(run: Run, memory: &mut [u32], out: &mut [u8], line: &mut [u8], buffe
     }
 }
 
-// Takes a line's turn, and puts its answer line and the state after it.
+// Takes a line's turn, and puts its answer line, the state after it and the map.
 fn replay(
     rec: Record,
     input: Input,
@@ -85,11 +87,12 @@ fn replay(
     let next = reply.rec;
     let answered = lines::put_answer(output, out, reply.number, reply.value, reply.compared);
     let shown = put_state(answered, out, next, memory);
-    let more = !shown.failed;
+    let mapped = put_map(shown, out, next, memory);
+    let more = !mapped.failed;
     Run {
         rec: next,
         input,
-        output: shown,
+        output: mapped,
         more,
     }
 }
@@ -105,6 +108,23 @@ fn put_state(output: Output, out: &mut [u8], rec: Record, memory: &[u32]) -> Out
     let next = put_links(prev, out, nexts);
     let words = put_words(next, out, memory, rec.words as usize);
     lines::put_byte(words, out, 10)
+}
+
+// Puts the map of the heap in use, if there is one.
+fn put_map(output: Output, out: &mut [u8], rec: Record, memory: &[u32]) -> Output
+    requires { ⌜ 19 ≤ length (now out) ⌝ }
+{
+    let n = rec.words as usize;
+    if memory.len() < n {
+        return output;
+    }
+    // 16,383 words have at most 4,095 chunks, of nineteen bytes each
+    let mut room = [0u8; 77824];
+    let answer = map::write_map(rec, &memory[0..n], &mut room);
+    let Answer::Done(chunks) = answer else {
+        return output;
+    };
+    lines::put_lines(output, out, &room, chunks)
 }
 
 // Puts what the record holds beside its links.

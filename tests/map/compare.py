@@ -1,0 +1,335 @@
+"""The map's programs against Python written apart from them, and the drawing.
+
+    python3 tests/map/compare.py [MAPS]
+
+`chart` is run on histories, cut at many places, and its map is compared with the layout that oracle/model.py has there. `inspect` is run
+on those maps and on MAPS spoiled ones, and its answer is compared with `first_bad` below, which goes by one regular expression and by
+sums of lengths. The drawing's own reading (tools/heapmap) has to agree with both, and of every third map table, bar and picture are checked.
+"""
+
+import importlib.machinery
+import importlib.util
+import random
+import re
+import subprocess
+import sys
+import xml.etree.ElementTree as xml
+from itertools import accumulate
+from pathlib import Path
+
+ROOT = Path(__file__).resolve().parents[2]
+sys.path.insert(0, str(ROOT / "oracle"))
+import histories  # noqa: E402
+import model  # noqa: E402
+
+SEED = 20240201
+NO_MAP = b"050000000000000000\n"
+LINE = re.compile(rb"(1[012])([0-9A-F]{8})([0-9A-F]{8})\n")
+
+
+def load(path):
+    """A program of this repository as a module."""
+    loader = importlib.machinery.SourceFileLoader(Path(path).name, str(ROOT / path))
+    module = importlib.util.module_from_spec(importlib.util.spec_from_loader(loader.name, loader))
+    loader.exec_module(module)
+    return module
+
+
+heapmap = load("tools/heapmap")
+
+
+def fail(what, *shown):
+    """Stop at a difference."""
+    sys.exit("tests/map: %s%s" % (what, "".join("\n  %r" % (part[:200] if hasattr(part, "__getitem__") else part,) for part in shown)))
+
+
+def ask(program, data):
+    """What a program writes for an input."""
+    run = subprocess.run([ROOT / "target/bin" / program], input=data, capture_output=True, timeout=60)
+    if run.returncode != 0:
+        fail("%s ended with status %d on" % (program, run.returncode), data)
+    return run.stdout
+
+
+# the map of a state, and which bytes are a map
+
+
+def map_of(heap):
+    """The map of the model's heap."""
+    if heap.record.words == 0:
+        return NO_MAP
+    lines = []
+    for chunk in heap.chunks():
+        cached = chunk.link == heap.record.cached
+        lines.append(b"%02X%08X%08X\n" % (0x12 if cached else 0x11 if chunk.used else 0x10, 4 * chunk.w, chunk.length))
+    return b"".join(lines)
+
+
+def lines_of(data):
+    """The lines of some bytes, each with its line feed; the last may have none."""
+    return re.findall(rb"[^\n]*\n|[^\n]+\Z", data)
+
+
+def first_bad(data):
+    """The number of the first line that is malformed or cannot follow, or 0. A line's number counts the line feeds before it."""
+    lines = lines_of(data)
+    read = [LINE.fullmatch(line) for line in lines]
+    good = next((k for k, row in enumerate(read) if row is None), len(read))
+    kinds = [row[1] for row in read[:good]]
+    at, lengths = ([int(row[field], 16) for row in read[:good]] for field in (2, 3))
+    ends = list(accumulate(lengths, initial=0))
+    bad = [good + 1] if good < len(read) or not lines else []
+    bad += [k + 1 for k in range(good) if at[k] != ends[k]]
+    bad += [k + 1 for k in range(good) if lengths[k] < 16 or lengths[k] % 8 or not model.accepted(ends[k + 1] // 4 + 1)]
+    bad += [k + 1 for k in range(1, good) if kinds[k - 1] == kinds[k] == b"10"]
+    bad += [k + 1 for k in range(good) if kinds[k] == b"12"][1:]
+    return min(bad, default=0)
+
+
+def wanted_of(data):
+    """The answer line to a map."""
+    bad = first_bad(data)
+    return b"07%08X00000000\n" % bad if bad else b"00%08X00000000\n" % data.count(b"\n")
+
+
+# what is compared
+
+
+def compare_inspect(data):
+    """`inspect`, the reader here and the drawing's say the same of some bytes."""
+    said, wanted = ask("inspect", data), wanted_of(data)
+    if said != wanted:
+        fail("inspect answers otherwise than the reader", data, said, wanted)
+    chunks, fault = heapmap.read(data)
+    if (fault.line if fault else 0) != first_bad(data):
+        fail("tools/heapmap reads otherwise", data, fault, wanted)
+    return chunks if fault is None else None
+
+
+def compare_history(frames, rng, cuts):
+    """`chart` on a history, cut at some places: its maps are the model's. Gives them."""
+    lines = lines_of(frames)
+    places = set(rng.sample(range(len(lines) + 1), min(cuts, len(lines)))) | {len(lines)}
+    trace, maps = model.Trace(), []
+    for place in range(len(lines) + 1):
+        if place in places:
+            wanted, said = map_of(trace.heap), ask("chart", b"".join(lines[:place]))
+            if said != wanted:
+                fail("chart and the model differ after %d lines" % place, said, wanted)
+            maps.append(wanted)
+        if place < len(lines):
+            trace.line(lines[place][:-1] if lines[place].endswith(b"\n") else b"")
+    return maps
+
+
+# spoiled maps
+
+
+def spoiled(data, rng):
+    """A map with one or two things changed."""
+    for _ in range(rng.choice((1, 1, 1, 2))):
+        data = rng.choice((flipped, digit, dropped, doubled, swapped, cut, fed, longer, another_kind, another_length))(data, rng)
+    return data
+
+
+def flipped(data, rng):
+    """A bit is another."""
+    place = rng.randrange(len(data)) if data else 0
+    return data[:place] + bytes([data[place] ^ 1 << rng.randrange(8)]) + data[place + 1 :] if data else data
+
+
+def digit(data, rng):
+    """A byte is another digit, or looks like one."""
+    place = rng.randrange(len(data)) if data else 0
+    return data[:place] + bytes([rng.choice(b"0123456789ABCDEFafgG:@/ -\r\n\0\xff")]) + data[place + 1 :]
+
+
+def of_lines(change):
+    """A change of the list of lines."""
+    return lambda data, rng: b"".join(change(lines_of(data) or [b""], rng))
+
+
+def without(lines, k):
+    """The lines but one."""
+    return lines[:k] + lines[k + 1 :]
+
+
+dropped = of_lines(lambda lines, rng: without(lines, rng.randrange(len(lines))))
+doubled = of_lines(lambda lines, rng: (lambda k: lines[: k + 1] + lines[k:])(rng.randrange(len(lines))))
+swapped = of_lines(lambda lines, rng: (lambda k: without(lines, k) + [lines[k]])(rng.randrange(len(lines))))
+
+
+def cut(data, rng):
+    """Ends earlier: without its last line feed, or somewhere."""
+    return data[:-1] if rng.random() < 0.4 else data[: rng.randrange(len(data) + 1)]
+
+
+def fed(data, rng):
+    """Line feeds as others write them."""
+    return rng.choice((data.replace(b"\n", b"\r\n"), data.replace(b"\n", b"\r"), data + b"\n", b"\n" + data, data.replace(b"\n", b"\n\n", 1)))
+
+
+def longer(data, rng):
+    """Something behind it."""
+    end = sum(int(line[10:18], 16) for line in data.splitlines() if LINE.fullmatch(line + b"\n"))
+    row = b"%02X%08X%08X\n" % (rng.choice((0x10, 0x11, 0x12)), end, rng.choice((8, 16, 20, 24, 4096, 262_112 - end if end < 262_112 else 16, 2**32 - 8)))
+    return data + rng.choice((row, b"0", b" ", row[:-1], b"\0" * 19))
+
+
+def another_kind(data, rng):
+    """A line's kind is another."""
+    place = 19 * rng.randrange(len(data) // 19 + 1)
+    return data[:place] + rng.choice((b"10", b"11", b"12", b"13", b"0F", b"00")) + data[place + 2 :]
+
+
+def another_length(data, rng):
+    """A line's length is another, and the offsets behind it follow; legal lengths among them."""
+    lines = [line for line in data.splitlines() if LINE.fullmatch(line + b"\n")]
+    if not lines:
+        return data
+    chosen, at, out = rng.randrange(len(lines)), 0, []
+    for k, line in enumerate(lines):
+        length = rng.choice((0, 8, 12, 16, 20, 24, 40, 262_104, 262_112, 2**31)) if k == chosen else int(line[10:18], 16)
+        out.append(b"%s%08X%08X\n" % (line[:2], at % 2**32, length))
+        at += length
+    return b"".join(out)
+
+
+def extremes():
+    """The longest map, and bytes that are far from one."""
+    most = b"".join(b"11%08X00000010\n" % (16 * k) for k in range(16_382))
+    one = b"100000000000000010\n"
+    return (
+        [b"", b"\n", b"\0", b"0" * 18, one, one[:-1], one + b"\n", one * 2, b"\r\n", one.lower(), one.replace(b"\n", b"\r\n"), NO_MAP]
+        + [most, most[:-1], most + b"\n", most + b"0", most + b"110003FFE000000010\n", most * 2, most + b"0" * 400_000]
+        + [b"0" * 1_000_000, b"0" * 1_000_000 + b"\n", b"0" * 400_000, b"\0" * 400_000, b"\n" * 400_000, one + b"1" * 1_000_000 + b"\n"]
+        + [b"10000000000003FFE0\n", b"10000000000003FFE8\n", b"120000000000000010\n120000001000000010\n", b"10FFFFFFF0FFFFFFF8\n"]
+    )
+
+
+# histories
+
+
+def traces(rng):
+    """Frames of histories: the trace list, and random ones of the oracle's."""
+    yield (ROOT / "crates/trace/stdin").read_bytes(), 60
+    yield b"", 1
+    for seed in range(24):
+        yield histories.random_history(SEED + seed)[0], 12
+
+
+def most_chunks():
+    """`chart` on the history with most chunks, least ones as long as one is found: its map, reckoned here."""
+    said = ask("chart", b"0000003FFF\n" + b"0100000001\n" * 4_200)
+    wanted = b"".join(b"11%08X00000010\n" % (16 * k) for k in range(4_094)) + b"100000FFE000000018\n"
+    if said != wanted:
+        fail("chart on 4,095 chunks", said, wanted)
+    return wanted
+
+
+# the drawing
+
+
+def check_drawing(data, chunks):
+    """Table, bar and picture of a map: every chunk is there, the sums are right, and nothing is outside."""
+    whole = heapmap.bytes_of(chunks)
+    table, bar = heapmap.table(chunks), heapmap.bar(chunks)
+    for line, chunk in zip(table[1:], chunks):
+        if line.split() != [f"{chunk.at:,}", f"{chunk.at + 4:,}", f"{chunk.length:,}", chunk.kind]:
+            fail("a line of the table is wrong", line, chunk)
+    sums = {line.split()[0]: line.split()[1:3] for line in table[len(chunks) + 3 : len(chunks) + 7]}
+    for kind, digits in (("free", b"10"), ("live", b"11"), ("cached", b"12"), ("all", b"1")):
+        lengths = [int(line[10:], 16) for line in data.splitlines() if line.startswith(digits)]
+        if sums[kind] != [f"{len(lengths):,}", f"{sum(lengths):,}"]:
+            fail("a sum is wrong: %s" % kind, sums, lengths)
+    if len(bar[0]) != heapmap.WIDTH or max(map(len, bar[1:3])) > heapmap.WIDTH or not bar[2].endswith(f"{whole:,}"):
+        fail("the bar is not as wide as it is to be", *bar)
+    if len(chunks) <= heapmap.WIDTH:
+        runs = [sign for sign, before in zip(bar[0], " " + bar[0]) if sign != before]
+        kinds = [heapmap.SIGNS[c.kind] for c, before in zip(chunks, [None, *chunks]) if before is None or before.kind != c.kind]
+        if runs != kinds or bar[1].count("^") != len(chunks):
+            fail("a chunk has no column of its own", *bar[:2])
+    check_picture(chunks, whole)
+
+
+def check_picture(chunks, whole):
+    """The picture is well-formed, has a title for each chunk, and the boxes of the chunks have the area of the heap."""
+    tree = xml.fromstring(heapmap.picture(chunks))
+    groups = tree.findall("{*}g")
+    size = heapmap.a_row(whole)
+    if len(groups) != len(chunks) + 1:
+        fail("the picture has %d groups for %d chunks" % (len(groups), len(chunks)))
+    drawn = 0
+    for group, chunk in zip(groups, chunks):
+        words = "%s chunk: header at %s, payload at %s, %s bytes" % (chunk.kind, *(f"{n:,}" for n in (chunk.at, chunk.at + 4, chunk.length)))
+        if group.find("{*}title").text != words:
+            fail("a title is wrong", group.find("{*}title").text, words)
+        drawn += sum(float(box.get("width")) for box in group.findall("{*}rect") if box.get("class") == "part")
+    if abs(drawn * size / heapmap.PLOT - whole) > 0.01 * len(groups) * size / heapmap.PLOT + 1:
+        fail("the picture shows %.1f bytes of %d" % (drawn * size / heapmap.PLOT, whole))
+
+
+def check_whys():
+    """Why a line is bad, in words."""
+    one = b"100000000000000010\n"
+    for data, line, why in (
+        (b"", 1, "malformed: there is no line"),
+        (one + b"10000000100000001\n", 2, "malformed: it has 17 digits"),
+        (one.replace(b"\n", b"\r\n"), 1, "malformed: it ends in a carriage return"),
+        (one[:-1], 1, "malformed: the line feed at its end is missing"),
+        (b"10000000000000001a\n", 1, "malformed: only the digits"),
+        (b"130000000000000010\n", 1, "malformed: its kind is 13"),
+        (b"100000000800000010\n", 1, "wrong offset: its header is at 8, and the first chunk begins at 0"),
+        (one + b"110000002000000010\n", 2, "wrong offset: its header is at 32, and the chunk before it ends at 16"),
+        (b"110000000000000008\n", 1, "length not legal: 8 bytes"),
+        (b"110000000000000014\n", 1, "length not legal: 20 bytes"),
+        (b"11000000000003FFE8\n", 1, "too long: it ends at 262,120"),
+        (one + b"100000001000000010\n", 2, "free after free"),
+        (b"120000000000000010\n120000001000000010\n", 2, "second cached"),
+    ):
+        fault = heapmap.read(data)[1]
+        if fault is None or fault.line != line or not fault.why.startswith(why):
+            fail("why a line is bad: %s" % why, data, fault)
+
+
+def check_documents():
+    """The picture in docs/ and the lines and bar in README.md are what is written today."""
+    chunks, _ = heapmap.read((ROOT / "crates/chart/stdout").read_bytes())
+    if (ROOT / "docs/heap-map.svg").read_text() != heapmap.picture(chunks):
+        fail("docs/heap-map.svg is old: tools/heapmap crates/chart/stdout --svg docs/heap-map.svg")
+    said = ask("chart", b"0000000021\n" + b"010000000C\n" * 3 + b"0200000004\n0200000024\n").decode()
+    shown = said.splitlines() + [""] + heapmap.bar(heapmap.read(said.encode())[0])
+    if "".join("    %s\n" % line if line else "\n" for line in shown) not in (ROOT / "README.md").read_text():
+        fail("README.md's example of a map is old; it is now", *shown)
+
+
+def main(arguments):
+    """Compare everything."""
+    count = int(arguments[0]) if arguments else 2500
+    rng = random.Random(SEED)
+    check_whys()
+    check_documents()
+    maps = [data for frames, cuts in traces(rng) for data in compare_history(frames, rng, cuts)]
+    good = sorted({most_chunks(), *maps} - {NO_MAP})
+    for k, data in enumerate(good):
+        chunks = compare_inspect(data)
+        if chunks is None:
+            fail("the map of a heap is refused", data)
+        if k % 3 == 0:
+            check_drawing(data, chunks)
+    for data in extremes():
+        chunks = compare_inspect(data)
+        if chunks is not None:
+            check_drawing(data, chunks)
+    accepted = 0
+    small = [data for data in good if len(data) < 19 * 60]
+    for _ in range(count):
+        accepted += compare_inspect(spoiled(rng.choice(small), rng)) is not None
+    print(
+        "map: %d maps of chart equal the model's, %d different ones read; %d spoiled ones and %d extremes answered as the reader does, %d accepted"
+        % (len(maps), len(good), count, len(extremes()), accepted)
+    )
+
+
+if __name__ == "__main__":
+    main(sys.argv[1:])
