@@ -1,7 +1,7 @@
 // The audit: whether a record and its words are sound (document 01, "Sound"), the test that answer 5 goes by. It reads any record and any words.
 //
-// What it costs: the tiling is walked twice whole, with all tests and then with one, and a third time up to the cached chunk; each class list is
-// followed once both ways, and once more for each window of 1,024 words. The stack holds 64 bytes of marks beside the locals, whatever the length.
+// What it costs: the tiling is walked twice, with all tests and then with one; each class list is followed once both ways, and once more for each
+// window of 2,048 words. A list of none costs two reads. The stack holds 128 bytes of marks beside the locals, whatever the length.
 //
 //     tiling    chunks, from one header to the next
 //     rings     the class lists as mirrored rings
