@@ -348,14 +348,14 @@ heap has 16,383 words.
 | Heap, by chunks | Audit over walk | Spread | Target |
 |---|---|---|---|
 {}
-Where the time goes: the tiling is walked twice whole, the first time with all tests, and a third time with all tests up to the cached
-chunk, which above is the last one freed, near the heap's end. Each list is followed once both ways, and once more for each of the 16
-windows of 1,024 words. With few chunks a fixed cost shows, which a heap just made has alone. States that tell these apart:
+Where the time goes: the tiling is walked twice, the first time with all tests, the second with one. Each list is followed once both
+ways, and once more for each of the 8 windows of 2,048 words. With few chunks a fixed cost shows, which a heap just made has alone.
+States that tell these apart, and one that shows that it is the same wherever the cached chunk stands:
 
 | Heap, by chunks | Audit over walk | Spread |
 |---|---|---|
 {}
-On the stack the audit needs 64 bytes of marks beside its locals, whatever the length of the heap.
+On the stack the audit needs 128 bytes of marks beside its locals, whatever the length of the heap.
 
 ## Calls against the Rust
 

@@ -3,10 +3,11 @@ use Prim.Native.Nat.{ℕ, _+_, _-_, _*_, _/_, _%_, _≤_, _<_}
 use mathlib.Core.Path.{_≡_, refl, sym, ap, _∙_, subst}
 use mathlib.Core.Logic.{⊎-elim}
 use mathlib.Core.List.{List, [], _∷_, List·Memᴰ·head, List·Memᴰ·not-nil, List·Memᴰ·eq-of-singleton}
-use mathlib.Core.Bool.{Bool, true, false, false≢true}
+use mathlib.Core.Bool.{Bool, true, false, not}
 use native.Mathlib.Omega.{arith}
+use lib.ListN.{length}
 use lib.Dec.{eqb, leb, ltb}
-use borrow.Author.Tests.{lt-ltb, le-ltb, le-leb, eq-eqb, ne-eqb, eqb-true, leb-true, ltb-false}
+use borrow.Author.Tests.{lt-ltb, le-ltb, le-leb, eq-eqb, ne-eqb, eqb-true, eqb-false, leb-true, ltb-false, not-true}
 use Rattle.words.specs.Choice as choice
 use Rattle.rules.specs.Place.{usedAt}
 use Rattle.rules.specs.Sound.{CacheRight}
@@ -14,22 +15,33 @@ use Rattle.audit.specs.declared.tiling.Seen.{Seen}
 use Rattle.audit.specs.declared.tiling.Seen.the-variants.{Bad, Free, Used}
 use Rattle.audit.specs.Shown.{cachedOf}
 use Rattle.audit.specs.Layout.{Chunk, free, used, pick, Tiles}
-use Rattle.audit.specs.Walk.{chunkOf, chunkIn, usedSeen, cacheRightᵇ}
-use Rattle.audit.proofs.tiling.Headers.{pick-some, pick-is, used-not-bad, free-not-used}
-use Rattle.audit.proofs.tiling.Finds.{chunk-in}
+use Rattle.audit.specs.Walk.{chunkOf, chunkIn, lengthSeen, heldAt, cachedWord, cacheBy, cacheRightᵇ}
+use Rattle.audit.proofs.tiling.Headers.{pick-some, pick-is, used-not-bad, free-not-used, used-room}
+use Rattle.audit.proofs.tiling.Finds.{found-seen, chunk-in}
 use Rattle.audit.proofs.Tilings.{all}
 
--- the test of a link above 5, by what the code saw
-pub cache-at : (ws : List ℕ) (l w : ℕ) (y : Seen) → (l ≡ 0 → ⊥) → 6 ≤ l → w ≡ l - 6 → y ≡ chunkOf ws w → cacheRightᵇ ws l ≡ usedSeen y
-unfolding cacheRightᵇ pick
-cache-at ws l w y n i e f = simp (ne-eqb l 0 n, le-ltb l 6 i) (ap usedSeen (ap (chunkOf ws) (sym e) ∙ sym f))
+-- the test by what a walk holds at the cached chunk's word
+pub cache-held : (ws : List ℕ) (l w held : ℕ) → w ≡ cachedWord (length ws) l → held ≡ heldAt ws w → cacheBy l held ≡ cacheRightᵇ ws l
+unfolding cacheRightᵇ
+cache-held ws l w held e f = ap (cacheBy l) (f ∙ ap (heldAt ws) e)
 
--- a used chunk that is seen has a length
-used-seen-is : (y : Seen) → usedSeen y ≡ true → (n : ℕ) × (y ≡ Used n)
-unfolding usedSeen
-used-seen-is Bad e = absurd (false≢true e)
-used-seen-is (Free n) e = absurd (false≢true e)
-used-seen-is (Used n) e = (n, refl)
+-- what is held is the length of a used chunk
+held-used : (ws : List ℕ) (w : ℕ) → (heldAt ws w ≡ 0 → ⊥) → (n : ℕ) × (chunkOf ws w ≡ Used n)
+unfolding heldAt lengthSeen
+held-used ws w h = go (chunkOf ws w) refl
+  where
+    go : (y : Seen) → chunkOf ws w ≡ y → (n : ℕ) × (chunkOf ws w ≡ Used n)
+    go Bad e = absurd (h (ap lengthSeen e))
+    go (Free n) e = absurd (h (ap lengthSeen e))
+    go (Used n) e = (n, e)
+
+-- such a chunk lies in the words, and is no empty one
+used-there : (ws : List ℕ) (w n : ℕ) → chunkOf ws w ≡ Used n → (w < length ws) × (heldAt ws w ≡ n) × (16 ≤ n)
+unfolding heldAt lengthSeen
+used-there ws w n e =
+    let s = found-seen ws w (Used n) (used-not-bad n) e in
+    let r = used-room ws w (s .0) n (s .1) in
+    (omega (arith, r), ap lengthSeen e, r .least)
 
 -- A USED CHUNK, by its word and by its byte
 past : (at w m : ℕ) → at + m / 4 ≤ w → 16 ≤ m → m % 8 ≡ 0 → ((w - at) * 4 ≡ 0 → ⊥) × (m ≤ (w - at) * 4) × ((w - (at + m / 4)) * 4 ≡ (w - at) * 4 - m)
@@ -108,17 +120,17 @@ from-zero w = omega arith
 module _ (ws : List ℕ) (cs : List Chunk) (t : Tiles ws 0 true cs) (l : ℕ) where
   -- what passes the test is right by the rules
   pub cache-sound : cacheRightᵇ ws l ≡ true → CacheRight 1 (cachedOf l) (all cs)
-  unfolding cacheRightᵇ pick
+  unfolding cacheRightᵇ cacheBy cachedWord pick
   cache-sound h = go (eqb l 0) h
     where
-      at : (s : Bool) → ltb l 6 ≡ s → pick s false (usedSeen (chunkOf ws (l - 6))) ≡ true → (6 ≤ l) × (0 < usedAt (all cs) ((l - 6) * 4))
-      at true i u = absurd (false≢true u)
+      at : (s : Bool) → ltb l 6 ≡ s → not (eqb (heldAt ws (pick s (length ws) (l - 6))) 0) ≡ true → (6 ≤ l) × (0 < usedAt (all cs) ((l - 6) * 4))
+      at true i u = absurd (let s = held-used ws (length ws) (eqb-false _ _ (not-true _ u)) in omega (arith, used-there ws (length ws) (s .0) (s .1) .0))
       at false i u =
-          let s = used-seen-is _ u in
+          let s = held-used ws (l - 6) (eqb-false _ _ (not-true _ u)) in
           let r = in-used cs ws 0 true t (l - 6) (s .0) (sym (chunk-in ws cs (l - 6) t) ∙ s .1) in
           (ltb-false l 6 i, subst (λ (k : ℕ). 0 < usedAt (all cs) (k * 4)) (from-zero (l - 6)) (r .1))
 
-      go : (s : Bool) → pick s true (pick (ltb l 6) false (usedSeen (chunkOf ws (l - 6)))) ≡ true → CacheRight 1 (choice.pick s [] (l ∷ [])) (all cs)
+      go : (s : Bool) → pick s true (not (eqb (heldAt ws (pick (ltb l 6) (length ws) (l - 6))) 0)) ≡ true → CacheRight 1 (choice.pick s [] (l ∷ [])) (all cs)
       go true u = record { used = λ x m. absurd (List·Memᴰ·not-nil m); once = tt; room = omega arith }
       go false u =
           let r = at (ltb l 6) refl u in
@@ -130,12 +142,13 @@ module _ (ws : List ℕ) (cs : List Chunk) (t : Tiles ws 0 true cs) (l : ℕ) wh
 
   -- and what is right passes
   pub cache-complete : CacheRight 1 (cachedOf l) (all cs) → cacheRightᵇ ws l ≡ true
-  unfolding cacheRightᵇ pick usedSeen
+  unfolding cacheRightᵇ cacheBy cachedWord pick
   cache-complete h = go (eqb l 0) h
     where
-      go : (s : Bool) → CacheRight 1 (choice.pick s [] (l ∷ [])) (all cs) → pick s true (pick (ltb l 6) false (usedSeen (chunkOf ws (l - 6)))) ≡ true
+      go : (s : Bool) → CacheRight 1 (choice.pick s [] (l ∷ [])) (all cs) → pick s true (not (eqb (heldAt ws (pick (ltb l 6) (length ws) (l - 6))) 0)) ≡ true
       go true u = refl
       go false u =
           let r = u .used l (List·Memᴰ·head refl) in
           let n = used-in cs ws 0 true t (l - 6) (omega arith) (subst (λ (k : ℕ). 0 < usedAt (all cs) (k * 4)) (sym (from-zero (l - 6))) (r .1)) in
-          simp (le-ltb l 6 (r .0), chunk-in ws cs (l - 6) t, n .1)
+          let k = used-there ws (l - 6) (n .0) (chunk-in ws cs (l - 6) t ∙ n .1) in
+          simp (le-ltb l 6 (r .0), ne-eqb (heldAt ws (l - 6)) 0 (λ z. omega (arith, z, k)))

@@ -8,7 +8,7 @@ use mathlib.Core.List.{List}
 use mathlib.Core.Bool.{true, false≢true}
 use native.Mathlib.Omega.{arith}
 use lib.ListN.{length}
-use borrow.Author.Tests.{lt-ltb, le-ltb, eq-eqb, eqb-true, ltb-true, ltb-false}
+use borrow.Author.Tests.{lt-ltb, le-ltb, eq-eqb, eqb-true, ltb-false}
 use Rattle.words.specs.declared.names.Link.{Link}
 use Rattle.words.specs.Sizes.{classOf}
 use Rattle.audit.specs.declared.tiling.Seen.{Seen}
@@ -23,6 +23,7 @@ use Rattle.audit.proofs.Sound.{ListRight}
 use Rattle.audit.proofs.tiling.Headers.{pick-is, free-not-bad, free-room}
 use Rattle.audit.proofs.tiling.Finds.{found-seen, chunk-in}
 use Rattle.audit.proofs.tiling.Places.{in-free, free-in, links-few}
+use Rattle.audit.proofs.rings.Nodes.{inside-is}
 use Rattle.audit.proofs.rings.Chases.{Passing, follow-sound, follow-complete, chain-list}
 use Rattle.audit.proofs.windows.Lists.{free-of-at}
 
@@ -40,15 +41,6 @@ free-of-is ws c x e =
     ⊎-elim
     (λ u. absurd (false≢true (u .1)))
     (λ v. (ltb-false x 6 (v .0), free-seen-is c _ (v .1)))
-    (pick-is _ _ _ _ e)
-
--- and one that lies before the guard
-inside-is : (ws : List ℕ) (x : ℕ) → insideᵇ ws x ≡ true → (6 ≤ x) × (x - 6 + 1 < length ws)
-unfolding insideᵇ
-inside-is ws x e =
-    ⊎-elim
-    (λ u. absurd (false≢true (u .1)))
-    (λ v. (ltb-false x 6 (v .0), ltb-true _ _ (v .1)))
     (pick-is _ _ _ _ e)
 
 -- a free chunk lies before the guard

@@ -1,5 +1,5 @@
 -- THE CLASS LISTS AS RINGS, as the code follows them: no part of what a sound heap is.
-use Prim.Native.Nat.{ℕ, zero, suc, _+_, _-_, _<_}
+use Prim.Native.Nat.{ℕ, zero, suc, _+_, _-_, _≤_, _<_}
 use mathlib.Core.Path.{_≡_}
 use mathlib.Core.List.{List, [], _∷_}
 use mathlib.Core.Bool.{Bool, false}
@@ -28,6 +28,10 @@ unfoldable pub prevOf : List Link → List ℕ → ℕ → ℕ
 prevOf prev ws k = nodeLink narrow links.prev (numbers prev) ws k
 
 -- link k names a word before the guard
+abbrev pub Inside : List ℕ → ℕ → Type 0
+Inside ws k = (6 ≤ k) × (k - 6 + 1 < length ws)
+
+-- the test of it
 unfoldable pub insideᵇ : List ℕ → ℕ → Bool
 insideᵇ ws k = pick (ltb k 6) false (ltb (k - 6 + 1) (length ws))
 
@@ -52,3 +56,7 @@ AreRings prev next ws frees = (c : ℕ) → c < 6 → chained prev next ws c ≡
 unfoldable pub listOf : (ℕ → ℕ) → ℕ → ℕ → List ℕ
 listOf next zero from = []
 listOf next (suc n) from = next from ∷ listOf next n (next from)
+
+-- the first n links of class list c name words before the guard
+abbrev pub AllInside : List Link → List ℕ → ℕ → ℕ → Type 0
+AllInside next ws n c = (x : ℕ) → 0 < count x (listOf (nextOf next ws) n c) → Inside ws x

@@ -82,15 +82,27 @@ chunkIn [] at w = Bad
 chunkIn (free n ∷ cs) at w = pick (ltb at w) (chunkIn cs (at + n / 4) w) (pick (eqb at w) (Free n) Bad)
 chunkIn (used n ∷ cs) at w = pick (ltb at w) (chunkIn cs (at + n / 4) w) (pick (eqb at w) (Used n) Bad)
 
--- THE CACHED CHUNK by its link l: none, or a used one
-unfoldable pub usedSeen : Seen → Bool
-usedSeen Bad = false
-usedSeen (Free n) = false
-usedSeen (Used n) = true
+-- WHAT IS HELD at a word: the length of the used chunk that was seen there, and 0 where none was
+unfoldable pub lengthSeen : Seen → ℕ
+lengthSeen Bad = 0
+lengthSeen (Free n) = 0
+lengthSeen (Used n) = n
+
+-- of the chunk whose header is word w
+unfoldable pub heldAt : List ℕ → ℕ → ℕ
+heldAt ws w = lengthSeen (chunkOf ws w)
+
+-- THE CACHED CHUNK by its link l. Its word among n, which is no header's where the link names no chunk
+unfoldable pub cachedWord : ℕ → ℕ → ℕ
+cachedWord n l = pick (ltb l 6) n (l - 6)
+
+-- no chunk, or one of which so many bytes are held
+unfoldable pub cacheBy : ℕ → ℕ → Bool
+cacheBy l held = pick (eqb l 0) true (not (eqb held 0))
 
 -- no chunk, or a used one
 unfoldable pub cacheRightᵇ : List ℕ → ℕ → Bool
-cacheRightᵇ ws l = pick (eqb l 0) true (pick (ltb l 6) false (usedSeen (chunkOf ws (l - 6))))
+cacheRightᵇ ws l = cacheBy l (heldAt ws (cachedWord (length ws) l))
 
 -- THE FIGURES, against n words, the sum of used lengths and the end of the last used chunk
 pub record FiguresFit (f : Figures) (n sum top : ℕ) : Type 0 where

@@ -13,7 +13,7 @@ use Rattle.audit.specs.declared.tiling.Seen.the-variants.{Bad, Free, Use
 use Rattle.audit.specs.declared.windows.Stand.{Stand}
 use Rattle.audit.specs.Layout.{Chunk, pick, Tiles}
 use Rattle.audit.specs.Walk.{bytes, chunkOf, chunkIn}
-use Rattle.audit.specs.Rings.{count, nextOf, listOf}
+use Rattle.audit.specs.Rings.{count, nextOf, listOf, AllInside}
 
 -- MARKS: half a byte v for eight words, that of word d
 unfoldable pub nibble : ℕ → ℕ → ℕ
@@ -89,7 +89,7 @@ AllFit next ws ms frees from to = (c : ℕ) → c < 6 → allᵇ (nextOf next ws
 pub record Ringed (next : List Link) (ws frees : List ℕ) : Type 0 where
   pub layout : List Chunk
   pub tiles : Tiles ws 0 true layout
-  pub inside : (c : ℕ) → c < 6 → (x : ℕ) → 0 < count x (listOf (nextOf next ws) (getD frees c 0) c) → (6 ≤ x) × (x - 6 + 1 < length ws)
+  pub inside : (c : ℕ) → c < 6 → AllInside next ws (getD frees c 0) c
 
 -- the listed links name free chunks, each of its list's class
 abbrev pub Listed : List Link → List ℕ → List ℕ → Type 0

@@ -1,7 +1,7 @@
 // The audit: whether a record and its words are sound (document 01, "Sound"), the test that answer 5 goes by. It reads any record and any words.
 //
-// What it costs: the tiling is walked twice whole, with all tests and then with one, and a third time up to the cached chunk; each class list is
-// followed once both ways, and once more for each window of 1,024 words. The stack holds 64 bytes of marks beside the locals, whatever the length.
+// What it costs: the tiling is walked twice, with all tests and then with one; each class list is followed once both ways, and once more for each
+// window of 2,048 words. A list of none costs two reads. The stack holds 128 bytes of marks beside the locals, whatever the length.
 //
 //     tiling    chunks, from one header to the next
 //     rings     the class lists as mirrored rings
@@ -15,15 +15,13 @@ ghost use Rattle.words.specs.Links.{narrow};
 ghost use Rattle.rules.specs.State.{ops};
 ghost use Rattle.rules.specs.Test.{soundᵇ};
 ghost use Rattle.audit.specs.Shown.{shown};
-ghost use Rattle.audit.specs.Walk.{FiguresFit, cacheRightᵇ};
+ghost use Rattle.audit.specs.Walk.{FiguresFit, cachedWord, cacheBy};
 
 mod rings;
 mod tiling;
 mod windows;
 
 use rings::rings_right;
-use tiling::Seen;
-use tiling::chunk_of;
 use tiling::count_chunks;
 use windows::lists_right;
 use words::Link;
@@ -40,23 +38,24 @@ pub struct Figures {
     pub cached: Link,
 }
 
-// Whether the cached chunk, if there is one, is a used one.
-fn cache_right(heap: &[u32], cached: Link) -> bool
-    ensures { λ r. ⌜ r ≡ cacheRightᵇ (now (heap .entry)) (cached .0) ⌝ }
+// The word of the cached chunk's header; where the link names no chunk, the heap's length, which is no header's.
+fn cached_word(n: usize, cached: Link) -> usize
+    ensures { λ r. ⌜ r ≡ cachedWord n (cached .0) ⌝ }
+{
+    if cached.0 < 6 {
+        return n;
+    }
+    cached.0 as usize - 6
+}
+
+// Whether the cached chunk, if there is one, is a used one: one of some length.
+fn cache_right(cached: Link, held: usize) -> bool
+    ensures { λ r. ⌜ r ≡ cacheBy (cached .0) held ⌝ }
 {
     if cached.0 == 0 {
         return true;
     }
-    if cached.0 < 6 {
-        return false;
-    }
-    let hdr = words::link_to_hdr(cached);
-    let seen = chunk_of(heap, hdr.0);
-    match seen {
-        Seen::Bad => false,
-        Seen::Free(_) => false,
-        Seen::Used(_) => true,
-    }
+    held != 0
 }
 
 // Whether the figures are right for n words whose used chunks sum up to `sum` and end at `top`.
@@ -98,7 +97,8 @@ fn figures_right(f: Figures, n: usize, sum: usize, top: usize) -> bool
 pub fn audit(prev: [Link; 6], next: [Link; 6], figures: Figures, heap: &[u32]) -> bool
     ensures { λ r. ⌜ r ≡ soundᵇ (ops narrow) 65529 1 (shown prev next figures (now (heap .entry))) ⌝ }
 {
-    let t = count_chunks(heap);
+    let w = cached_word(heap.len(), figures.cached);
+    let t = count_chunks(heap, w);
     let whole = t.whole;
     if !whole {
         return false;
@@ -107,7 +107,7 @@ pub fn audit(prev: [Link; 6], next: [Link; 6], figures: Figures, heap: &[u32]) -
     if !right {
         return false;
     }
-    let cache = cache_right(heap, figures.cached);
+    let cache = cache_right(figures.cached, t.held);
     if !cache {
         return false;
     }

@@ -5,7 +5,10 @@
 ghost use mathlib.Core.Path.{_≡_};
 ghost use mathlib.Core.Logic.{_↔_};
 ghost use mathlib.Core.Bool.{Bool, true};
-ghost use Rattle.audit.specs.Rings.{insideᵇ, chained, AreRings};
+ghost use Prim.Native.Nat.{_+_, _-_, _<_};
+ghost use lib.ListN.{getD};
+ghost use Rattle.audit.specs.declared.rings.Followed.the-variants.{Long};
+ghost use Rattle.audit.specs.Rings.{insideᵇ, Inside, chained, AreRings};
 use words::Link;
 
 // A list followed to its end: cut, or how many chunks it has.
@@ -24,29 +27,62 @@ fn inside(heap: &[u32], k: Link) -> bool
     (k.0 - 6) as usize + 1 < heap.len()
 }
 
-// The class list, followed from its sentinel, each step mirrored.
+// The word that holds both links of a chunk, prev in its low half and next in its high half.
+pub(crate) fn links_of(heap: &[u32], k: Link) -> u32
+    requires { ⌜ Inside (now heap) (k .0) ⌝ }
+    ensures { λ r. ⌜ r ≡ getD (now (heap .entry)) (k .0 - 6 + 1) 0 ⌝ }
+{
+    heap[(k.0 - 6) as usize + 1]
+}
+
+// The class list, followed from its sentinel, each step mirrored. One word read a link.
 fn follow(prev: [Link; 6], next: [Link; 6], heap: &[u32], class: u16) -> Followed
+    requires { ⌜ class < 6 ⌝ }
     ensures { λ r. ⌜ r ≡ chained prev next (now (heap .entry)) class ⌝ }
 {
-    let mut from = Link(class);
+    let mut from: u16 = class;
+    let mut k = next[class as usize];
     let mut n: usize = 0;
     while n <= heap.len() {
-        let k = words::next_of(next, heap, from);
-        let back = words::prev_of(prev, heap, k);
-        if back.0 != from.0 {
-            return Followed::Cut;
-        }
         if k.0 == class {
+            if prev[class as usize].0 != from {
+                return Followed::Cut;
+            }
             return Followed::Long(n);
         }
         let good = inside(heap, k);
         if !good {
             return Followed::Cut;
         }
-        from = k;
+        let both = links_of(heap, k);
+        let back = (both % 65536) as u16;
+        if back != from {
+            return Followed::Cut;
+        }
+        from = k.0;
+        let after = (both / 65536) as u16;
+        k = Link(after);
         n = n + 1;
     }
     Followed::Cut
+}
+
+// Whether the class list is a mirrored ring of n chunks. One of none is told by its sentinel alone.
+fn ring_right(prev: [Link; 6], next: [Link; 6], heap: &[u32], class: u16, n: usize) -> bool
+    requires { ⌜ class < 6 ⌝ }
+    ensures { λ (r : Bool). ⌜ (r ≡ true ↔ chained prev next (now (heap .entry)) class ≡ Long n) ⌝ }
+{
+    if n == 0 {
+        if next[class as usize].0 != class {
+            return false;
+        }
+        return prev[class as usize].0 == class;
+    }
+    let f = follow(prev, next, heap, class);
+    match f {
+        Followed::Cut => false,
+        Followed::Long(m) => m == n,
+    }
 }
 
 // Whether each class list is a mirrored ring of as many chunks as the tiling has free ones of that class.
@@ -55,14 +91,9 @@ pub(crate) fn rings_right(prev: [Link; 6], next: [Link; 6], heap: &[u32], frees:
 {
     let mut class: u16 = 0;
     while class < 6 {
-        let f = follow(prev, next, heap, class);
-        match f {
-            Followed::Cut => return false,
-            Followed::Long(n) => {
-                if n != frees[class as usize] {
-                    return false;
-                }
-            }
+        let good = ring_right(prev, next, heap, class, frees[class as usize]);
+        if !good {
+            return false;
         }
         class = class + 1;
     }

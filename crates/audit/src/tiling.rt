@@ -3,10 +3,12 @@
 // A walk stands at a header and knows whether its left neighbour is used: `left` is 1 if it is and 0 if not. Contracts cite specs/Walk.antt; what is
 // seen is a layout of specs/Layout.antt, and each layout is seen (proofs/tiling/).
 ghost use mathlib.Core.Path.{_≡_};
-ghost use mathlib.Core.Bool.{false};
+ghost use mathlib.Core.Bool.{true, false};
+ghost use lib.Dec.{eqb};
 ghost use Prim.Native.Nat.{ℕ, _<_};
 ghost use Rattle.audit.specs.declared.tiling.Seen.the-variants.{Bad};
-ghost use Rattle.audit.specs.Walk.{seenAt, tiledBy, tallied, chunkOf};
+ghost use Rattle.audit.specs.Layout.{pick};
+ghost use Rattle.audit.specs.Walk.{seenAt, tiledBy, tallied, heldAt};
 
 // What stands at a word of the tiling: nothing legal, or a chunk of so many bytes.
 pub(crate) enum Seen {
@@ -23,6 +25,8 @@ pub(crate) struct Tally {
     pub(crate) sum: usize,
     // Where the last used chunk ends, in bytes.
     pub(crate) top: usize,
+    // The length of the used chunk at the word that was asked for; 0 where none is there.
+    pub(crate) held: usize,
     // How many free chunks each class has.
     pub(crate) frees: [usize; 6],
 }
@@ -82,18 +86,27 @@ fn no_tiling() -> Tally
         whole: false,
         sum: 0,
         top: 0,
+        held: 0,
         frees: [0; 6],
     }
 }
 
-// Whether chunks tile the words up to the guard, with the sums, and the number of free chunks of each class.
-pub(crate) fn count_chunks(heap: &[u32]) -> Tally
-    ensures { λ r. ⌜ ((c : ℕ) → c < 6 → tiledBy (now (heap .entry)) c ≡ tallied r c) ⌝ }
+// What is held after a used chunk of n bytes at word `at`: n if that is the word w asked for.
+fn hold(held: usize, at: usize, w: usize, n: usize) -> usize
+    ensures { λ r. ⌜ r ≡ pick (eqb at w) n held ⌝ }
+{
+    if at == w { n } else { held }
+}
+
+// Whether chunks tile the words up to the guard, with the sums, what is held at word w, and the number of free chunks of each class.
+pub(crate) fn count_chunks(heap: &[u32], w: usize) -> Tally
+    ensures { λ r. ⌜ ((c : ℕ) → c < 6 → tiledBy (now (heap .entry)) c ≡ tallied r c) × (r .whole ≡ true → r .held ≡ heldAt (now (heap .entry)) w) ⌝ }
 {
     let mut at: usize = 0;
     let mut left: u32 = 1;
     let mut sum: usize = 0;
     let mut top: usize = 0;
+    let mut held: usize = 0;
     let mut frees: [usize; 6] = [0; 6];
     if heap.len() == 0 {
         return no_tiling();
@@ -109,6 +122,7 @@ pub(crate) fn count_chunks(heap: &[u32]) -> Tally
                 left = 0;
             }
             Seen::Used(len) => {
+                held = hold(held, at, w, len as usize);
                 at = at + (len / 4) as usize;
                 left = 1;
                 sum = sum + len as usize;
@@ -123,32 +137,7 @@ pub(crate) fn count_chunks(heap: &[u32]) -> Tally
         whole: true,
         sum: sum,
         top: top,
+        held: held,
         frees: frees,
     }
-}
-
-// The chunk whose header is word `w` in the tiling from the left, if there is one.
-pub(crate) fn chunk_of(heap: &[u32], w: usize) -> Seen
-    ensures { λ r. ⌜ r ≡ chunkOf (now (heap .entry)) w ⌝ }
-{
-    let mut at: usize = 0;
-    let mut left: u32 = 1;
-    while at < w {
-        let seen = seen_at(heap, at, left);
-        match seen {
-            Seen::Bad => return Seen::Bad,
-            Seen::Free(len) => {
-                at = at + (len / 4) as usize;
-                left = 0;
-            }
-            Seen::Used(len) => {
-                at = at + (len / 4) as usize;
-                left = 1;
-            }
-        }
-    }
-    if at == w {
-        return seen_at(heap, at, left);
-    }
-    Seen::Bad
 }

@@ -6,10 +6,11 @@
 ghost use mathlib.Core.Path.{_≡_};
 ghost use mathlib.Core.Logic.{_↔_};
 ghost use mathlib.Core.Bool.{Bool, true};
-ghost use Prim.Native.Nat.{_≤_, _<_, _/_};
-ghost use lib.ListN.{length};
-ghost use Rattle.audit.specs.Rings.{nextOf};
+ghost use Prim.Native.Nat.{ℕ, _≤_, _<_, _/_};
+ghost use lib.ListN.{length, getD};
+ghost use Rattle.audit.specs.Rings.{nextOf, AllInside};
 ghost use Rattle.audit.specs.Window.{markedᵇ, withMark, fitsᵇ, allᵇ, AllFit, Blank, Window, Ringed, Listed};
+use super::rings::links_of;
 use super::tiling::Seen;
 use super::tiling::known_at;
 use words::Link;
@@ -104,17 +105,18 @@ fn listed_fit(
     from: usize,
     to: usize,
 ) -> bool
-    requires { ⌜ (from ≤ to) × (to ≤ length (now heap)) ⌝ }
+    requires { ⌜ (from ≤ to) × (to ≤ length (now heap)) × (class < 6) × AllInside next (now heap) n class ⌝ }
     ensures { λ r. ⌜ r ≡ allᵇ (nextOf next (now (heap .entry))) (fitsᵇ (now (heap .entry)) (now (marks .entry)) class from to) n class ⌝ }
 {
-    let mut k = Link(class);
+    let mut k = next[class as usize];
     let mut left: usize = n;
     while 0 < left {
-        k = words::next_of(next, heap, k);
         let good = fits(heap, marks, class, from, to, k);
         if !good {
             return false;
         }
+        let after = (links_of(heap, k) / 65536) as u16;
+        k = Link(after);
         left = left - 1;
     }
     true
@@ -129,7 +131,7 @@ fn window_right(
     from: usize,
     to: usize,
 ) -> bool
-    requires { ⌜ (from ≤ to) × (to ≤ length (now heap)) ⌝ }
+    requires { ⌜ (from ≤ to) × (to ≤ length (now heap)) × ((c : ℕ) → c < 6 → AllInside next (now heap) (getD frees c 0) c) ⌝ }
     ensures { λ (r : Bool). ⌜ (r ≡ true ↔ AllFit next (now (heap .entry)) (now (marks .entry)) frees from to) ⌝ }
 {
     let mut class: u16 = 0;
@@ -151,7 +153,7 @@ pub(crate) fn lists_right(next: [Link; 6], heap: &[u32], frees: [usize; 6]) -> b
     let mut at: usize = 0;
     let mut left: u32 = 1;
     while at + 1 < heap.len() {
-        let mut marks = [0u8; 64];
+        let mut marks = [0u8; 128];
         let stand = mark(heap, &mut marks, at, left);
         let good = window_right(next, heap, &marks, frees, at, stand.at);
         if !good {

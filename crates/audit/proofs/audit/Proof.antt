@@ -13,6 +13,7 @@ use Rattle.rules.specs.State.{ops}
 use Rattle.audit.specs.Shown.{shown}
 use Rattle.audit.proofs.Whole.{not-broken, cache-of, figures-of, rings-of, ringed-of, listed-of, sound-of}
 use Rattle.audit.proofs.Agree.{tells}
+use Rattle.audit.proofs.Cached.{cache-held}
 use Rattle.audit.proofs.tiling.Tallies.{tally-broken}
 use Rattle.audit.proofs.Counting.{refused, passed-on}
 use Rattle.audit.proofs.Sound.{SoundPair}
@@ -24,13 +25,16 @@ told : (c : tie.Start) (b : Bool) → (b ≡ true) ↔ SoundPair (c .args .prev)
     → b ≡ soundᵇ (ops narrow) 65529 1 (shown (c .args .prev) (c .args .next) (c .args .figures) (now (c .args .heap)))
 told c b e = tells (c .args .prev) (c .args .next) (c .args .figures) (now (c .args .heap)) (omega (arith, c .good)) (omega (arith, c .good)) b e
 
+cached-word-requires : tie.Need-cached-word-requires
+cached-word-requires c κs = search needs
+
 count-chunks-requires : tie.Need-count-chunks-requires
 count-chunks-requires c κs = search needs
 
 returns : tie.Need-returns
 returns c =
-    let broken = tally-broken _ _ (c .before .count-chunks .ensures) (not-true _ (c .if1 .taken)) in
-    told (c .before .before .before) _
+    let broken = tally-broken _ _ (c .before .count-chunks .ensures .0) (not-true _ (c .if1 .taken)) in
+    told (c .before .before .before .before) _
     (refused (not-broken _ _ _ _ broken))
 
 figures-right-requires : tie.Need-figures-right-requires
@@ -38,9 +42,9 @@ figures-right-requires c κs = search needs
 
 returns-2 : tie.Need-returns-2
 returns-2 c =
-    let walk = c .before .before .before .count-chunks .ensures in
+    let walk = c .before .before .before .count-chunks .ensures .0 in
     let whole = not-false _ (c .before .before .if1 .left) in
-    told (c .before .before .before .before .before) _
+    told (c .before .before .before .before .before .before) _
     (refused (λ s. false≢true (sym (not-true _ (c .if2 .taken)) ∙ c .before .figures-right .ensures .1 (figures-of _ _ _ _ _ walk whole s))))
 
 cache-right-requires : tie.Need-cache-right-requires
@@ -48,40 +52,44 @@ cache-right-requires c κs = search needs
 
 returns-3 : tie.Need-returns-3
 returns-3 c =
-    told (c .before .before .before .before .before .before .before) _
-    (refused (λ s. false≢true (sym (not-true _ (c .if3 .taken)) ∙ c .before .cache-right .ensures ∙ cache-of _ _ _ _ s)))
+    let held = c .before .before .before .before .before .count-chunks .ensures .1 (not-false _ (c .before .before .before .before .if1 .left)) in
+    let cache = c .before .cache-right .ensures ∙ cache-held _ _ _ _ (c .before .before .before .before .before .before .cached-word .ensures) held in
+    told (c .before .before .before .before .before .before .before .before) _
+    (refused (λ s. false≢true (sym (not-true _ (c .if3 .taken)) ∙ cache ∙ cache-of _ _ _ _ s)))
 
 rings-right-requires : tie.Need-rings-right-requires
 rings-right-requires c κs = search needs
 
 returns-4 : tie.Need-returns-4
 returns-4 c =
-    let walk = c .before .before .before .before .before .before .before .before .count-chunks .ensures in
+    let walk = c .before .before .before .before .before .before .before .before .count-chunks .ensures .0 in
     let whole = not-false _ (c .before .before .before .before .before .before .before .if1 .left) in
-    told (c .before .before .before .before .before .before .before .before .before .before) _
+    told (c .before .before .before .before .before .before .before .before .before .before .before) _
     (refused (λ s. false≢true (sym (not-true _ (c .if4 .taken)) ∙ c .before .rings-right .ensures .1 (rings-of _ _ _ _ _ walk whole s))))
 
 lists-right-requires : tie.Need-lists-right-requires
 lists-right-requires c κs =
-    let walk = c .before .before .before .before .before .before .before .before .count-chunks .ensures in
+    let walk = c .before .before .before .before .before .before .before .before .count-chunks .ensures .0 in
     let whole = not-false _ (c .before .before .before .before .before .before .before .if1 .left) in
     let rings = c .before .rings-right .ensures .0 (not-false _ (c .if4 .left)) in
-    ringed-of (c .before .before .before .before .before .before .before .before .before .before .args .prev) _ (c .before .before .before .before .before .before .before .before .before .before .args .figures) _ _ walk whole rings
+    ringed-of (c .before .before .before .before .before .before .before .before .before .before .before .args .prev) _ (c .before .before .before .before .before .before .before .before .before .before .before .args .figures) _ _ walk whole rings
 
 returns-5 : tie.Need-returns-5
 returns-5 c =
-    let walk = c .before .before .before .before .before .before .before .before .before .count-chunks .ensures in
+    let walk = c .before .before .before .before .before .before .before .before .before .count-chunks .ensures .0 in
     let whole = not-false _ (c .before .before .before .before .before .before .before .before .if1 .left) in
     let figures = c .before .before .before .before .before .before .before .figures-right .ensures .0 (not-false _ (c .before .before .before .before .before .before .if2 .left)) in
-    let cache = sym (c .before .before .before .before .before .cache-right .ensures) ∙ not-false _ (c .before .before .before .before .if3 .left) in
+    let held = cache-held _ _ _ _ (c .before .before .before .before .before .before .before .before .before .before .cached-word .ensures) (c .before .before .before .before .before .before .before .before .before .count-chunks .ensures .1 whole) in
+    let cache = sym (c .before .before .before .before .before .cache-right .ensures ∙ held) ∙ not-false _ (c .before .before .before .before .if3 .left) in
     let rings = c .before .before .rings-right .ensures .0 (not-false _ (c .before .if4 .left)) in
-    told (c .before .before .before .before .before .before .before .before .before .before .before) _
+    told (c .before .before .before .before .before .before .before .before .before .before .before .before) _
     (passed-on _ (c .lists-right .ensures) (sound-of _ _ _ _ _ walk whole rings figures cache) (listed-of _ _ _ _ _ walk whole))
 
 pub audit-spec : {M : Type 1} → statement M
 audit-spec =
     tie.close
     (tie.spec
+    cached-word-requires
     count-chunks-requires
     returns
     figures-right-requires

@@ -1,4 +1,6 @@
--- Finding a chunk by its word: the turns of the loop, and that what is found is in the layout.
+-- Finding a chunk by its word: the turns of a search, that what is found is in the layout, and what a walk of all words holds of it.
+--     Seeking, seek-..      what is left to search from here is the whole search
+--     Holding, holding-..   a walk holds what it found at a word that it has passed
 use Prim.Native.Nat.{ℕ, zero, suc, _+_, _-_, _/_, _%_, _≤_, _<_}
 use mathlib.Core.Path.{_≡_, refl, sym, ap, _∙_, subst}
 use mathlib.Core.Logic.{⊎-elim}
@@ -13,11 +15,11 @@ use Rattle.words.proofs.Laws.Choice.{bit-small}
 use Rattle.audit.specs.declared.tiling.Seen.{Seen}
 use Rattle.audit.specs.declared.tiling.Seen.the-variants.{Bad, Free, Used}
 use Rattle.audit.specs.Layout.{Chunk, free, used, pick, Tiles}
-use Rattle.audit.specs.Walk.{seenAt, onto, chunkFrom, chunkOf, chunkIn}
-use Rattle.audit.proofs.Counting.{le-or-lt}
+use Rattle.audit.specs.Walk.{seenAt, onto, chunkFrom, chunkOf, chunkIn, lengthSeen, heldAt}
+use Rattle.audit.proofs.Counting.{le-or-lt, same-or}
 use Rattle.audit.proofs.tiling.Headers.{pick-some, pick-is, free-room, used-room, free-seen, used-seen}
 
--- THE LOOP'S INVARIANT: what is left to search from here is the whole search
+-- A SEARCH: what is left to search from here is the whole search
 pub record Seeking (ws : List ℕ) (w at left : ℕ) : Type 0 where
   pub fuel : ℕ
   pub enough : length ws < at + fuel
@@ -159,3 +161,74 @@ found-in (suc f) (used n ∷ cs) ws w at l t h =
 pub chunk-in : (ws : List ℕ) (cs : List Chunk) (w : ℕ) → Tiles ws 0 true cs → chunkOf ws w ≡ chunkIn cs 0 w
 unfolding chunkOf
 chunk-in ws cs w t = found-in (suc (length ws)) cs ws w 0 true t (omega arith)
+
+-- WHAT IS HELD of word w where a walk stands: nothing up to the word, and then what was found there
+pub record Holding (ws : List ℕ) (w at left held : ℕ) : Type 0 where
+  pub ahead : at ≤ w → Seeking ws w at left × (held ≡ 0)
+  pub behind : w < at → held ≡ heldAt ws w
+
+-- at the start
+pub holding-starts : (ws : List ℕ) (w : ℕ) → Holding ws w 0 1 0
+holding-starts ws w = record { ahead = (λ i. (seeking-starts ws w, refl)); behind = (λ i. absurd (omega arith)) }
+
+-- what was found is held
+held-is : (ws : List ℕ) (w : ℕ) (y : Seen) → chunkOf ws w ≡ y → heldAt ws w ≡ lengthSeen y
+unfolding heldAt
+held-is ws w y e = ap lengthSeen e
+
+module _ (ws : List ℕ) (w at left held : ℕ) (g : Holding ws w at left held) where
+  -- a step over the word holds nothing
+  holds-none : (next l : ℕ) → (at ≤ w → (at ≡ w → ⊥) → Seeking ws w next l) → w < next → (at ≡ w → ⊥) → held ≡ heldAt ws w
+  unfolding lengthSeen
+  holds-none next l s i n =
+      ⊎-elim
+      (λ j.
+      let z = held-is ws w Bad (seek-past ws w next l (s j n) (omega arith) (λ e. absurd (omega arith))) in
+      g .ahead j .1 ∙ sym z)
+      (λ j. g .behind j)
+      (le-or-lt at w)
+
+  -- past a free chunk
+  pub holding-free : (n : ℕ) → seenAt ws at left ≡ Free n → Holding ws w (at + n / 4) 0 held
+  unfolding lengthSeen
+  holding-free n e =
+      let b = free-room ws at left n e in
+      let s : at ≤ w → (at ≡ w → ⊥) → Seeking ws w (at + n / 4) 0 = λ j k. seek-free ws w at left n (g .ahead j .0) (omega (arith, j, k)) e in
+      record {
+        ahead = (λ i. (s (omega arith) (λ z. omega (arith, z, b)), g .ahead (omega arith) .1));
+        behind = (λ i.
+            ⊎-elim
+            (λ u. g .ahead (omega (arith, u .0)) .1 ∙ sym (held-is ws w (Free n) (seek-here ws w at left (g .ahead (omega (arith, u .0)) .0) (u .0) ∙ e)))
+            (λ v. holds-none (at + n / 4) 0 s i (v .0))
+            (same-or at w));
+      }
+
+  -- past a used one, which is held at its word
+  pub holding-used : (n : ℕ) → seenAt ws at left ≡ Used n → Holding ws w (at + n / 4) 1 (pick (eqb at w) n held)
+  unfolding lengthSeen pick
+  holding-used n e =
+      let b = used-room ws at left n e in
+      let s : at ≤ w → (at ≡ w → ⊥) → Seeking ws w (at + n / 4) 1 = λ j k. seek-used ws w at left n (g .ahead j .0) (omega (arith, j, k)) e in
+      record {
+        ahead = (λ i. (s (omega arith) (λ z. omega (arith, z, b)), rw (ne-eqb at w (λ z. omega (arith, z, b))) (g .ahead (omega arith) .1)));
+        behind = (λ i.
+            ⊎-elim
+            (λ u. rw (eq-eqb at w (u .0)) (sym (held-is ws w (Used n) (seek-here ws w at left (g .ahead (omega (arith, u .0)) .0) (u .0) ∙ e))))
+            (λ v. rw (ne-eqb at w (v .0)) (holds-none (at + n / 4) 1 s i (v .0)))
+            (same-or at w));
+      }
+
+  -- at the guard the walk is past the word, or nothing is there
+  pub holding-guard : getD ws at 0 < 16 → held ≡ heldAt ws w
+  unfolding lengthSeen
+  holding-guard h =
+      let e : seenAt ws at left ≡ Bad = guard-bad ws at left h in
+      ⊎-elim
+      (λ i. g .ahead i .1
+      ∙ sym (held-is ws w Bad
+      (⊎-elim
+      (λ u. seek-here ws w at left (g .ahead i .0) (u .0) ∙ e)
+      (λ v. seek-bad ws w at left (g .ahead i .0) (omega (arith, i, v .0)) e)
+      (same-or at w))))
+      (λ i. g .behind i)
+      (le-or-lt at w)

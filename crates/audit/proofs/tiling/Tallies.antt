@@ -2,7 +2,7 @@
 use Prim.Native.Nat.{ℕ, _+_, _-_, _*_, _/_, _≤_, _<_}
 use mathlib.Core.Path.{_≡_, refl, sym, ap, _∙_, subst}
 use mathlib.Core.Logic.{⊎-elim}
-use mathlib.Core.Bool.{true, false}
+use mathlib.Core.Bool.{true, false, false≢true}
 use mathlib.Core.List.{List}
 use native.Mathlib.Omega.{arith}
 use lib.ListN.{length, getD, set, replicate, length-set, getD-replicate}
@@ -14,7 +14,7 @@ use Rattle.words.proofs.Laws.Sizes.{class-below}
 use Rattle.audit.specs.declared.tiling.Seen.the-variants.{Bad, Free, Used}
 use Rattle.audit.specs.declared.tiling.Tally.{Tally}
 use Rattle.audit.specs.Layout.{Chunk, pick, Tiles, freeLinks}
-use Rattle.audit.specs.Walk.{Broken, Whole, seenAt, walk, tiledBy, tallied}
+use Rattle.audit.specs.Walk.{Broken, Whole, seenAt, walk, tiledBy, tallied, heldAt}
 use Rattle.audit.proofs.Counting.{same-or, same-bit, diff-bit}
 use Rattle.audit.proofs.tiling.Headers.{free-room, used-room}
 use Rattle.audit.proofs.tiling.Walks.{Going, going-bad, going-free, going-used, going-guard, going-no-guard, tiled-complete}
@@ -50,9 +50,14 @@ tallying-starts ws h =
     }
 
 -- the answer says of a walk that breaks
-pub tells-broken : (ws : List ℕ) (t : Tally) → t .whole ≡ false → ((c : ℕ) → c < 6 → tiledBy ws c ≡ Broken) → (c : ℕ) → c < 6 → tiledBy ws c ≡ tallied t c
+tells-broken : (ws : List ℕ) (t : Tally) → t .whole ≡ false → ((c : ℕ) → c < 6 → tiledBy ws c ≡ Broken) → (c : ℕ) → c < 6 → tiledBy ws c ≡ tallied t c
 unfolding tallied pick
 tells-broken ws t e b c i = b c i ∙ rw e refl
+
+-- and holds nothing
+pub broken-told : (ws : List ℕ) (w : ℕ) (t : Tally) → t .whole ≡ false → ((c : ℕ) → c < 6 → tiledBy ws c ≡ Broken)
+    → ((c : ℕ) → c < 6 → tiledBy ws c ≡ tallied t c) × (t .whole ≡ true → t .held ≡ heldAt ws w)
+broken-told ws w t e b = (tells-broken ws t e b, λ f. absurd (false≢true (sym e ∙ f)))
 
 module _ (ws : List ℕ) (at left sum top : ℕ) (frees : List ℕ) (t : Tallying ws at left sum top frees) where
   -- a class is a place of the tally, and its count fits

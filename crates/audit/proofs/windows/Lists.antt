@@ -1,9 +1,10 @@
 -- Links against a window, and the lists, window by window.
 --     fits-..       the test's three ways, by the wrapping differences that the code takes
 --     fits-in       in the window the test is whether the link names a free chunk of the class
+--     Left, left-.. the links of a list that are left to test
 --     Showing       every listed link below `at` names a free chunk of its class
-use Prim.Native.Nat.{ℕ, zero, suc, _+_, _-_, _%_, _^_, _≤_, _<_}
-use mathlib.Core.Path.{_≡_, refl, sym, ap, _∙_}
+use Prim.Native.Nat.{ℕ, zero, suc, _+_, _-_, _/_, _%_, _^_, _≤_, _<_}
+use mathlib.Core.Path.{_≡_, refl, sym, ap, _∙_, subst₂}
 use mathlib.Core.Logic.{⊎-elim}
 use mathlib.Core.List.{List}
 use mathlib.Core.Bool.{Bool, true, false, false≢true}
@@ -18,11 +19,12 @@ use Rattle.audit.specs.declared.tiling.Seen.the-variants.{Bad, Free, Use
 use Rattle.audit.specs.declared.windows.Stand.{Stand}
 use Rattle.audit.specs.Layout.{pick}
 use Rattle.audit.specs.Walk.{bytes, chunkOf}
-use Rattle.audit.specs.Rings.{count, nextOf, listOf}
+use Rattle.audit.specs.Rings.{count, nextOf, listOf, Inside, AllInside}
 use Rattle.audit.specs.Window.{markedᵇ, isFree, Standing, Window, fitsᵇ, allᵇ, freeSeen, freeOf, AllFit, Ringed, Listed}
 use Rattle.audit.proofs.Counting.{same-or, same-bit, le-or-lt}
 use Rattle.audit.proofs.tiling.Headers.{pick-some, free-not-bad, free-bytes}
 use Rattle.audit.proofs.tiling.Finds.{found-seen}
+use Rattle.audit.proofs.rings.Nodes.{next-in}
 use Rattle.audit.proofs.windows.Steps.{standing-starts, standing-here}
 
 -- A LINK AGAINST A WINDOW. The length of a chunk that was found is its header's
@@ -132,10 +134,45 @@ module _ (next : ℕ → ℕ) (ok : ℕ → Bool) where
   all-stop (suc n) k j i e b = rw (sym e, b) refl
 
   -- the next link passes
-  pub all-on : (n k j : ℕ) → 0 < n → j ≡ next k → ok j ≡ true → allᵇ next ok n k ≡ allᵇ next ok (n - 1) j
+  all-on : (n k j : ℕ) → 0 < n → j ≡ next k → ok j ≡ true → allᵇ next ok n k ≡ allᵇ next ok (n - 1) j
   unfolding allᵇ pick
   all-on zero k j i e b = absurd (omega arith)
   all-on (suc n) k j i e b = let d : n ≡ suc n - 1 = omega arith in rw (sym e, b) (ap (λ (m : ℕ). allᵇ next ok m j) d)
+
+-- a list whose links lie before the guard: its first link, and the rest
+inside-tail : (next : List Link) (ws : List ℕ) (n b k : ℕ) → 0 < n → k ≡ nextOf next ws b → AllInside next ws n b → Inside ws k × AllInside next ws (n - 1) k
+unfolding listOf
+inside-tail next ws zero b k i e h = absurd (omega arith)
+inside-tail next ws (suc n) b k i e h = (
+  h k (omega (arith, same-bit k (nextOf next ws b) e)),
+  λ x j.
+      let d : suc n - 1 ≡ n = omega arith in
+      let p : 0 < count x (listOf (nextOf next ws) n (nextOf next ws b)) = subst₂ (λ (m l : ℕ). 0 < count x (listOf (nextOf next ws) m l)) d e j in
+      h x (omega (arith, p)),
+)
+
+-- WHAT IS LEFT OF A LIST of n links: k is the next one, and the test of what is left is the test of all
+pub record Left (next : List Link) (ws ms : List ℕ) (c from to n k left : ℕ) : Type 0 where
+  pub node : ℕ
+  pub after : k ≡ nextOf next ws node
+  pub same : allᵇ (nextOf next ws) (fitsᵇ ws ms c from to) n c ≡ allᵇ (nextOf next ws) (fitsᵇ ws ms c from to) left node
+  pub inside : AllInside next ws left node
+
+module _ (next : List Link) (ws ms : List ℕ) (c from to n k left : ℕ) (g : Left next ws ms c from to n k left) (i : 0 < left) where
+  -- the next link lies before the guard
+  pub left-inside : Inside ws k
+  left-inside = inside-tail next ws left (g .node) k i (g .after) (g .inside) .0
+
+  -- and where it passes, what comes after it is left
+  pub left-on : fitsᵇ ws ms c from to k ≡ true → (v : ℕ) → v ≡ getD ws (k - 6 + 1) 0 → Left next ws ms c from to n (v / 65536) (left - 1)
+  left-on o v e =
+      let t = inside-tail next ws left (g .node) k i (g .after) (g .inside) in
+      record {
+        node = k;
+        after = next-in next ws k v (t .0 .0) e;
+        same = g .same ∙ all-on (nextOf next ws) (fitsᵇ ws ms c from to) left (g .node) k i (g .after) o;
+        inside = t .1;
+      }
 
 -- THE WINDOWS, one after the other: the loop's invariant
 pub record Showing (next : List Link) (ws frees : List ℕ) (at left : ℕ) : Type 0 where

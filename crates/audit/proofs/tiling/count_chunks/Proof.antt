@@ -1,5 +1,5 @@
--- `audit::tiling::count_chunks` meets its contract. Invariant: for each class, what is left to walk with the sums so far is the whole walk.
--- Measure: the words ahead.
+-- `audit::tiling::count_chunks` meets its contract. Invariant: for each class, what is left to walk with the sums so far is the whole walk, and what
+-- was found at the word is held. Measure: the words ahead.
 use Prim.Native.Nat.{_-_}
 use mathlib.Core.Path.{sym, _∙_}
 use native.Mathlib.Omega.{arith}
@@ -8,25 +8,26 @@ use borrow.Author.Needs.{needs}
 use Rattle.audit.specs.Walk.{tallied}
 use Rattle.audit.specs.Layout.{pick}
 use Rattle.audit.proofs.tiling.Walks.{tiled-empty}
-use Rattle.audit.proofs.tiling.Tallies.{Tallying, tallying-starts, tells-broken, tally-room, tallying-bad, tallying-free, tallying-used, tallying-guard, tallying-no-guard}
+use Rattle.audit.proofs.tiling.Tallies.{Tallying, tallying-starts, broken-told, tally-room, tallying-bad, tallying-free, tallying-used, tallying-guard, tallying-no-guard}
+use Rattle.audit.proofs.tiling.Finds.{Holding, holding-starts, holding-free, holding-used, holding-guard}
 use Rattle.audit.proofs.tiling.Headers.{free-room, used-room}
 use Rattle.audit.proofs.tiling.count_chunks.Statement.{statement}
 use Rattle.audit.proofs.tiling.count_chunks.Tie as tie
 
 abbrev Inv-loop : tie.InvT-loop
-Inv-loop heap at₀ left₀ sum₀ top₀ frees₀ at left sum top frees = Tallying heap at left sum top frees
+Inv-loop heap w at₀ left₀ sum₀ top₀ held₀ frees₀ at left sum top held frees = Tallying heap at left sum top frees × Holding heap w at left held
 
 abbrev μ-loop : tie.MeasureT-loop
-μ-loop heap at₀ left₀ sum₀ top₀ frees₀ at left sum top frees = length heap - at
+μ-loop heap w at₀ left₀ sum₀ top₀ held₀ frees₀ at left sum top held frees = length heap - at
 
 no-tiling-requires : tie.Need-no-tiling-requires Inv-loop μ-loop
 no-tiling-requires c κs = search needs
 
 returns : tie.Need-returns Inv-loop μ-loop
-returns c = tells-broken _ _ (c .no-tiling .ensures) (λ k i. tiled-empty _ k (c .before .if1 .taken))
+returns c = broken-told _ _ _ (c .no-tiling .ensures) (λ k i. tiled-empty _ k (c .before .if1 .taken))
 
 loop-holds : tie.Need-loop-holds Inv-loop μ-loop
-loop-holds c = tallying-starts _ (omega arith)
+loop-holds c = (tallying-starts _ (omega arith), holding-starts _ _)
 
 add-loop : tie.Need-add-loop Inv-loop μ-loop
 add-loop c = search needs
@@ -42,8 +43,8 @@ no-tiling-requires-2 c κs = search needs
 
 returns-2 : tie.Need-returns-2 Inv-loop μ-loop
 returns-2 c =
-    tells-broken _ _ (c .no-tiling2 .ensures)
-    (tallying-bad _ _ _ _ _ _ (c .before .before .before .before .before .loop .inv) (c .before .before .before .before .loop-test .taken) (sym (c .before .before .before .seen-at .ensures) ∙ c .before .enum-told .given .1))
+    broken-told _ _ _ (c .no-tiling2 .ensures)
+    (tallying-bad _ _ _ _ _ _ (c .before .before .before .before .before .loop .inv .0) (c .before .before .before .before .loop-test .taken) (sym (c .before .before .before .seen-at .ensures) ∙ c .before .enum-told .given .1))
 
 enum-known-seen : tie.Need-enum-known-seen Inv-loop μ-loop
 enum-known-seen c = search needs
@@ -55,19 +56,19 @@ cast-class : tie.Need-cast-class Inv-loop μ-loop
 cast-class c = search needs
 
 mul-frees : tie.Need-mul-frees Inv-loop μ-loop
-mul-frees c = omega (arith, tally-room _ _ _ _ _ _ (c .before .before .before .before .before .before .loop .inv) _ _ (c .chunk-size-to-list-index .ensures))
+mul-frees c = omega (arith, tally-room _ _ _ _ _ _ (c .before .before .before .before .before .before .loop .inv .0) _ _ (c .chunk-size-to-list-index .ensures))
 
 array-read-frees : tie.Need-array-read-frees Inv-loop μ-loop
-array-read-frees c = omega (arith, tally-room _ _ _ _ _ _ (c .before .before .before .before .before .before .loop .inv) _ _ (c .chunk-size-to-list-index .ensures))
+array-read-frees c = omega (arith, tally-room _ _ _ _ _ _ (c .before .before .before .before .before .before .loop .inv .0) _ _ (c .chunk-size-to-list-index .ensures))
 
 add-frees : tie.Need-add-frees Inv-loop μ-loop
-add-frees c = omega (arith, tally-room _ _ _ _ _ _ (c .before .before .before .before .before .before .loop .inv) _ _ (c .chunk-size-to-list-index .ensures))
+add-frees c = omega (arith, tally-room _ _ _ _ _ _ (c .before .before .before .before .before .before .loop .inv .0) _ _ (c .chunk-size-to-list-index .ensures))
 
 mul-frees-2 : tie.Need-mul-frees-2 Inv-loop μ-loop
-mul-frees-2 c = omega (arith, tally-room _ _ _ _ _ _ (c .before .before .before .before .before .before .loop .inv) _ _ (c .chunk-size-to-list-index .ensures))
+mul-frees-2 c = omega (arith, tally-room _ _ _ _ _ _ (c .before .before .before .before .before .before .loop .inv .0) _ _ (c .chunk-size-to-list-index .ensures))
 
 array-write-frees : tie.Need-array-write-frees Inv-loop μ-loop
-array-write-frees c = omega (arith, tally-room _ _ _ _ _ _ (c .before .before .before .before .before .before .loop .inv) _ _ (c .chunk-size-to-list-index .ensures))
+array-write-frees c = omega (arith, tally-room _ _ _ _ _ _ (c .before .before .before .before .before .before .loop .inv .0) _ _ (c .chunk-size-to-list-index .ensures))
 
 cast-at : tie.Need-cast-at Inv-loop μ-loop
 cast-at c = search needs
@@ -80,32 +81,44 @@ loop-less c = omega (arith, free-room _ _ _ _ (sym (c .before .before .before .b
 
 loop-again : tie.Need-loop-again Inv-loop μ-loop
 loop-again c =
-    tallying-free _ _ _ _ _ _ (c .before .before .before .before .before .before .loop .inv) (c .before .before .before .before .before .loop-test .taken) _ _
-    (sym (c .before .before .before .before .seen-at .ensures) ∙ c .before .before .seen .given .1) (c .chunk-size-to-list-index .ensures)
+    let seen = sym (c .before .before .before .before .seen-at .ensures) ∙ c .before .before .seen .given .1 in (
+      tallying-free _ _ _ _ _ _ (c .before .before .before .before .before .before .loop .inv .0) (c .before .before .before .before .before .loop-test .taken) _ _ seen (c .chunk-size-to-list-index .ensures),
+      holding-free _ _ _ _ _ (c .before .before .before .before .before .before .loop .inv .1) _ seen,
+    )
 
 enum-known-seen-2 : tie.Need-enum-known-seen-2 Inv-loop μ-loop
 enum-known-seen-2 c = search needs
+
+cast-hold : tie.Need-cast-hold Inv-loop μ-loop
+cast-hold c = search needs
+
+hold-requires : tie.Need-hold-requires Inv-loop μ-loop
+hold-requires c κs = search needs
 
 cast-at-2 : tie.Need-cast-at-2 Inv-loop μ-loop
 cast-at-2 c = search needs
 
 add-at-2 : tie.Need-add-at-2 Inv-loop μ-loop
-add-at-2 c = omega (arith, used-room _ _ _ _ (sym (c .before .before .before .seen-at .ensures) ∙ c .before .seen2 .given .1))
+add-at-2 c = omega (arith, used-room _ _ _ _ (sym (c .before .before .before .before .seen-at .ensures) ∙ c .before .before .seen2 .given .1))
 
 cast-sum : tie.Need-cast-sum Inv-loop μ-loop
 cast-sum c = search needs
 
 add-sum : tie.Need-add-sum Inv-loop μ-loop
-add-sum c = omega (arith, used-room _ _ _ _ (sym (c .before .before .before .seen-at .ensures) ∙ c .before .seen2 .given .1))
+add-sum c = omega (arith, used-room _ _ _ _ (sym (c .before .before .before .before .seen-at .ensures) ∙ c .before .before .seen2 .given .1))
 
 mul-top : tie.Need-mul-top Inv-loop μ-loop
-mul-top c = omega (arith, used-room _ _ _ _ (sym (c .before .before .before .seen-at .ensures) ∙ c .before .seen2 .given .1))
+mul-top c = omega (arith, used-room _ _ _ _ (sym (c .before .before .before .before .seen-at .ensures) ∙ c .before .before .seen2 .given .1))
 
 loop-less-2 : tie.Need-loop-less-2 Inv-loop μ-loop
-loop-less-2 c = omega (arith, used-room _ _ _ _ (sym (c .before .before .before .seen-at .ensures) ∙ c .before .seen2 .given .1))
+loop-less-2 c = omega (arith, used-room _ _ _ _ (sym (c .before .before .before .before .seen-at .ensures) ∙ c .before .before .seen2 .given .1))
 
 loop-again-2 : tie.Need-loop-again-2 Inv-loop μ-loop
-loop-again-2 c = tallying-used _ _ _ _ _ _ (c .before .before .before .before .before .loop .inv) (c .before .before .before .before .loop-test .taken) _ (sym (c .before .before .before .seen-at .ensures) ∙ c .before .seen2 .given .1)
+loop-again-2 c =
+    let seen = sym (c .before .before .before .before .seen-at .ensures) ∙ c .before .before .seen2 .given .1 in (
+      tallying-used _ _ _ _ _ _ (c .before .before .before .before .before .before .loop .inv .0) (c .before .before .before .before .before .loop-test .taken) _ seen,
+      rw (c .hold .ensures) (holding-used _ _ _ _ _ (c .before .before .before .before .before .before .loop .inv .1) _ seen),
+    )
 
 mul-if2 : tie.Need-mul-if2 Inv-loop μ-loop
 mul-if2 c = search needs
@@ -120,11 +133,14 @@ no-tiling-requires-3 : tie.Need-no-tiling-requires-3 Inv-loop μ-loop
 no-tiling-requires-3 c κs = search needs
 
 returns-3 : tie.Need-returns-3 Inv-loop μ-loop
-returns-3 c = tells-broken _ _ (c .no-tiling3 .ensures) (tallying-no-guard _ _ _ _ _ _ (c .before .before .before .before .loop .inv) (c .before .before .before .loop-test .left) (c .before .if2 .taken))
+returns-3 c = broken-told _ _ _ (c .no-tiling3 .ensures) (tallying-no-guard _ _ _ _ _ _ (c .before .before .before .before .loop .inv .0) (c .before .before .before .loop-test .left) (c .before .if2 .taken))
 
 returns-4 : tie.Need-returns-4 Inv-loop μ-loop
 unfolding tallied pick
-returns-4 c = tallying-guard _ _ _ _ _ _ (c .before .before .before .loop .inv) (c .before .before .loop-test .left) (c .if2 .left)
+returns-4 c = (
+  tallying-guard _ _ _ _ _ _ (c .before .before .before .loop .inv .0) (c .before .before .loop-test .left) (c .if2 .left),
+  λ e. holding-guard _ _ _ _ _ (c .before .before .before .loop .inv .1) (omega (arith, c .before .before .before .loop .inv .0 .small, c .if2 .left)),
+)
 
 pub count-chunks-spec : {M : Type 1} → statement M
 count-chunks-spec =
@@ -153,6 +169,8 @@ count-chunks-spec =
     loop-less
     loop-again
     enum-known-seen-2
+    cast-hold
+    hold-requires
     cast-at-2
     add-at-2
     cast-sum

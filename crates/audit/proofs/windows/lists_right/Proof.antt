@@ -29,13 +29,13 @@ slice-aggregate-mark : tie.Need-slice-aggregate-mark Inv-loop μ-loop
 slice-aggregate-mark c = search needs
 
 mark-requires : tie.Need-mark-requires Inv-loop μ-loop
-mark-requires c κs = record { standing = c .before .before .loop .inv .standing; before = c .before .loop-test .taken; some = omega arith; bare = zeros 64 }
+mark-requires c κs = record { standing = c .before .before .loop .inv .standing; before = c .before .loop-test .taken; some = omega arith; bare = zeros 128 }
 
 slice-aggregate-window-right : tie.Need-slice-aggregate-window-right Inv-loop μ-loop
 slice-aggregate-window-right c = search needs
 
 window-right-requires : tie.Need-window-right-requires Inv-loop μ-loop
-window-right-requires c κs = (omega (arith, c .before .before .mark .ensures .further), omega (arith, standing-here _ _ _ (c .before .before .mark .ensures .standing)))
+window-right-requires c κs = (omega (arith, c .before .before .mark .ensures .further), omega (arith, standing-here _ _ _ (c .before .before .mark .ensures .standing)), c .before .before .before .before .before .before .before .pre .inside)
 
 returns : tie.Need-returns Inv-loop μ-loop
 returns c =

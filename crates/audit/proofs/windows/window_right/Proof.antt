@@ -32,7 +32,7 @@ array-read-listed-fit : tie.Need-array-read-listed-fit Inv-loop μ-loop
 array-read-listed-fit c = search needs
 
 listed-fit-requires : tie.Need-listed-fit-requires Inv-loop μ-loop
-listed-fit-requires c κs = search needs
+listed-fit-requires c κs = (c .before .before .before .before .pre .0, c .before .before .before .before .pre .1, c .loop-test .taken, c .before .before .before .before .pre .2 _ (c .loop-test .taken))
 
 returns : tie.Need-returns Inv-loop μ-loop
 returns c = refused (λ p. false≢true (sym (not-true _ (c .if1 .taken)) ∙ c .before .listed-fit .ensures ∙ p _ (c .before .before .loop-test .taken)))
