@@ -41,7 +41,8 @@ returns-4 c =
     let rows = c .before .before .before .before .before .before in
     let start = rows .before .before .before .before .before .before in
     into-done (start .args .lines .now) (start .args .room .now) (rows .before .before .before .if1 .left) _
-    (sym (rows .checked2 .given .1) ∙ rows .before .before .check-lines .ensures) _ (c .before .before .before .before .if2 .left) (c .before .before .lay-rows .ensures)
+    (sym (rows .checked2 .given .1) ∙ rows .before .before .check-lines .ensures) _
+    (c .before .before .before .before .if2 .left) (c .before .before .lay-rows .ensures)
 
 pub read-map-spec : {M : Type 1} → statement M
 read-map-spec =

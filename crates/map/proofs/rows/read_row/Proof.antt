@@ -1,4 +1,4 @@
--- `map::rows::read_row` meets its contract: of nineteen bytes that a line feed ends, two are read as the kind, eight as the offset and eight as the length.
+-- `map::rows::read_row` meets its contract: of nineteen bytes that a line feed ends, two are read as the kind, eight as the offset, eight as the length.
 use mathlib.Core.Path.{sym, _∙_}
 use borrow.Author.Needs.{needs}
 use Rattle.map.proofs.Reader.OneLine.{row-length, row-end, row-kind, row-offset, row-size, row-is}
@@ -33,7 +33,8 @@ enum-told : tie.Need-enum-told
 enum-told c = search needs
 
 returns-3 : tie.Need-returns-3
-returns-3 c = row-kind _ (c .before .before .before .before .before .before .if1 .left) (sym (c .enum-told .given .1) ∙ c .before .before .read-field .ensures)
+returns-3 c =
+    row-kind _ (c .before .before .before .before .before .before .if1 .left) (sym (c .enum-told .given .1) ∙ c .before .before .read-field .ensures)
 
 sub-read-field-2 : tie.Need-sub-read-field-2
 sub-read-field-2 c = search needs
@@ -54,7 +55,10 @@ enum-told-2 : tie.Need-enum-told-2
 enum-told-2 c = search needs
 
 returns-4 : tie.Need-returns-4
-returns-4 c = row-offset _ (c .before .before .before .before .before .before .before .before .before .before .before .if1 .left) (sym (c .enum-told2 .given .1) ∙ c .before .before .read-field2 .ensures)
+returns-4 c =
+    let first = c .before .before .before .before .before in
+    row-offset _ (first .before .before .before .before .before .before .if1 .left)
+    (sym (c .enum-told2 .given .1) ∙ c .before .before .read-field2 .ensures)
 
 sub-read-field-3 : tie.Need-sub-read-field-3
 sub-read-field-3 c = search needs
@@ -75,14 +79,22 @@ enum-told-3 : tie.Need-enum-told-3
 enum-told-3 c = search needs
 
 returns-5 : tie.Need-returns-5
-returns-5 c = row-size _ (c .before .before .before .before .before .before .before .before .before .before .before .before .before .before .before .before .if1 .left) (sym (c .enum-told3 .given .1) ∙ c .before .before .read-field3 .ensures)
+returns-5 c =
+    let second = c .before .before .before .before .before in
+    let first = second .before .before .before .before .before in
+    row-size _ (first .before .before .before .before .before .before .if1 .left)
+    (sym (c .enum-told3 .given .1) ∙ c .before .before .read-field3 .ensures)
 
 returns-6 : tie.Need-returns-6
 returns-6 c =
-    row-is _ (c .before .before .before .before .before .before .before .before .before .before .before .before .before .before .before .before .before .if1 .left) _ _ _ (c .before .before .before .before .before .before .before .before .before .before .before .before .before .before .before .if2 .left)
-    (sym (c .before .before .before .before .before .before .before .before .before .before .before .first .given .1) ∙ c .before .before .before .before .before .before .before .before .before .before .before .before .before .read-field .ensures)
-    (sym (c .before .before .before .before .before .before .second .given .1) ∙ c .before .before .before .before .before .before .before .before .read-field2 .ensures)
-    (sym (c .before .third .given .1) ∙ c .before .before .before .read-field3 .ensures)
+    let third = c .before in
+    let second = third .before .before .before .before .before in
+    let first = second .before .before .before .before .before in
+    let last = first .before .before .before .before in
+    row-is _ (last .before .before .if1 .left) _ _ _ (last .if2 .left)
+    (sym (first .first .given .1) ∙ first .before .before .read-field .ensures)
+    (sym (second .second .given .1) ∙ second .before .before .read-field2 .ensures)
+    (sym (third .third .given .1) ∙ third .before .before .read-field3 .ensures)
 
 pub read-row-spec : {M : Type 1} → statement M
 read-row-spec =
