@@ -7,7 +7,6 @@ ghost use mathlib.Core.Logic.{_↔_};
 ghost use mathlib.Core.Bool.{Bool, true};
 ghost use Prim.Native.Nat.{_+_, _-_, _<_};
 ghost use lib.ListN.{getD};
-ghost use Rattle.audit.specs.declared.rings.Followed.the-variants.{Long};
 ghost use Rattle.audit.specs.Rings.{insideᵇ, Inside, chained, AreRings};
 use words::Link;
 
@@ -67,33 +66,20 @@ fn follow(prev: [Link; 6], next: [Link; 6], heap: &[u32], class: u16) -> Followe
     Followed::Cut
 }
 
-// Whether the class list is a mirrored ring of n chunks. One of none is told by its sentinel alone.
-fn ring_right(prev: [Link; 6], next: [Link; 6], heap: &[u32], class: u16, n: usize) -> bool
-    requires { ⌜ class < 6 ⌝ }
-    ensures { λ (r : Bool). ⌜ (r ≡ true ↔ chained prev next (now (heap .entry)) class ≡ Long n) ⌝ }
-{
-    if n == 0 {
-        if next[class as usize].0 != class {
-            return false;
-        }
-        return prev[class as usize].0 == class;
-    }
-    let f = follow(prev, next, heap, class);
-    match f {
-        Followed::Cut => false,
-        Followed::Long(m) => m == n,
-    }
-}
-
 // Whether each class list is a mirrored ring of as many chunks as the tiling has free ones of that class.
 pub(crate) fn rings_right(prev: [Link; 6], next: [Link; 6], heap: &[u32], frees: [usize; 6]) -> bool
     ensures { λ (r : Bool). ⌜ (r ≡ true ↔ AreRings prev next (now (heap .entry)) frees) ⌝ }
 {
     let mut class: u16 = 0;
     while class < 6 {
-        let good = ring_right(prev, next, heap, class, frees[class as usize]);
-        if !good {
-            return false;
+        let f = follow(prev, next, heap, class);
+        match f {
+            Followed::Cut => return false,
+            Followed::Long(n) => {
+                if n != frees[class as usize] {
+                    return false;
+                }
+            }
         }
         class = class + 1;
     }

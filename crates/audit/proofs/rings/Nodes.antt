@@ -2,21 +2,17 @@
 --     next-start, prev-start     the links of a sentinel
 --     next-in, prev-in           the links of a chunk
 --     inside-is                  what the test of a link says
---     bare-ring, ring-bare       a list of none, by its sentinel
 use Prim.Native.Nat.{ℕ, _+_, _-_, _/_, _%_, _≤_, _<_}
-use mathlib.Core.Path.{_≡_, refl, sym, ap, _∙_}
+use mathlib.Core.Path.{_≡_, sym, ap}
 use mathlib.Core.Logic.{⊎-elim}
 use mathlib.Core.Bool.{true, false≢true}
 use mathlib.Core.List.{List}
-use native.Mathlib.Omega.{arith}
-use lib.ListN.{length, getD}
+use lib.ListN.{getD}
 use borrow.Author.Tests.{lt-ltb, le-ltb, ltb-true, ltb-false}
 use Rattle.words.specs.declared.names.Link.{Link}
 use Rattle.words.proofs.Laws.Numbers.{numbers-at}
-use Rattle.audit.specs.declared.rings.Followed.the-variants.{Long}
-use Rattle.audit.specs.Rings.{nextOf, prevOf, Inside, insideᵇ, chained}
+use Rattle.audit.specs.Rings.{nextOf, prevOf, Inside, insideᵇ}
 use Rattle.audit.proofs.tiling.Headers.{pick-is}
-use Rattle.audit.proofs.rings.Chases.{none-long, long-none}
 
 module _ (next : List Link) (ws : List ℕ) where
   -- the first link of a class list
@@ -48,19 +44,3 @@ inside-is ws x e =
     (λ u. absurd (false≢true (u .1)))
     (λ v. (ltb-false x 6 (v .0), ltb-true _ _ (v .1)))
     (pick-is _ _ _ _ e)
-
--- A CLASS LIST OF NONE, by the two links of its sentinel
-module _ (prev next : List Link) (ws : List ℕ) (c n : ℕ) (i : c < 6) (z : n ≡ 0) where
-  -- both name it
-  pub bare-ring : getD next c (record { 0 = 0 }) .0 ≡ c → getD prev c (record { 0 = 0 }) .0 ≡ c → chained prev next ws c ≡ Long n
-  unfolding chained
-  bare-ring p q =
-      none-long (nextOf next ws) (prevOf prev ws) (insideᵇ ws) c (length ws + 1) (omega arith) (sym (next-start next ws c i) ∙ p) (sym (prev-start prev ws c c i refl) ∙ q)
-      ∙ ap Long (sym z)
-
-  -- and where the list has none, they do
-  pub ring-bare : chained prev next ws c ≡ Long n → (getD next c (record { 0 = 0 }) .0 ≡ c) × (getD prev c (record { 0 = 0 }) .0 ≡ c)
-  unfolding chained
-  ring-bare e =
-      let r = long-none (nextOf next ws) (prevOf prev ws) (insideᵇ ws) c (length ws + 1) (e ∙ ap Long z) in
-      (next-start next ws c i ∙ r .0, prev-start prev ws c c i refl ∙ r .1)

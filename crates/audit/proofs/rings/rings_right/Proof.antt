@@ -1,14 +1,13 @@
 -- `audit::rings::rings_right` meets its contract. Invariant: the lists passed are rings of the right length. Measure: the classes left.
 use Prim.Native.Nat.{ℕ, _≤_, _<_, _-_}
-use mathlib.Core.Path.{_≡_, sym, _∙_}
-use mathlib.Core.Bool.{false≢true}
+use mathlib.Core.Path.{_≡_, sym, ap, _∙_}
 use native.Mathlib.Omega.{arith}
 use lib.ListN.{getD}
 use borrow.Author.Count.{below-none, below-more}
 use borrow.Author.Needs.{needs}
-use borrow.Author.Tests.{not-true, not-false}
 use Rattle.audit.specs.declared.rings.Followed.the-variants.{Long}
 use Rattle.audit.specs.Rings.{chained}
+use Rattle.audit.proofs.rings.Chases.{cut-not-long, long-is}
 use Rattle.audit.proofs.Counting.{refused, granted}
 use Rattle.audit.proofs.rings.rings_right.Statement.{statement}
 use Rattle.audit.proofs.rings.rings_right.Tie as tie
@@ -22,20 +21,29 @@ abbrev μ-loop : tie.MeasureT-loop
 loop-holds : tie.Need-loop-holds Inv-loop μ-loop
 loop-holds c = (omega arith, below-none _)
 
-cast-ring-right : tie.Need-cast-ring-right Inv-loop μ-loop
-cast-ring-right c = search needs
+follow-requires : tie.Need-follow-requires Inv-loop μ-loop
+follow-requires c κs = search needs
 
-mul-ring-right : tie.Need-mul-ring-right Inv-loop μ-loop
-mul-ring-right c = search needs
-
-array-read-ring-right : tie.Need-array-read-ring-right Inv-loop μ-loop
-array-read-ring-right c = search needs
-
-ring-right-requires : tie.Need-ring-right-requires Inv-loop μ-loop
-ring-right-requires c κs = c .loop-test .taken
+enum-told : tie.Need-enum-told Inv-loop μ-loop
+enum-told c = search needs
 
 returns : tie.Need-returns Inv-loop μ-loop
-returns c = refused (λ p. false≢true (sym (not-true _ (c .if1 .taken)) ∙ c .before .ring-right .ensures .1 (p _ (c .before .before .loop-test .taken))))
+returns c = refused (λ p. cut-not-long _ (sym (c .enum-told .given .1) ∙ c .before .before .follow .ensures ∙ p _ (c .before .before .before .loop-test .taken)))
+
+enum-known-f : tie.Need-enum-known-f Inv-loop μ-loop
+enum-known-f c = search needs
+
+cast-if1 : tie.Need-cast-if1 Inv-loop μ-loop
+cast-if1 c = search needs
+
+mul-if1 : tie.Need-mul-if1 Inv-loop μ-loop
+mul-if1 c = search needs
+
+array-read-if1 : tie.Need-array-read-if1 Inv-loop μ-loop
+array-read-if1 c = search needs
+
+returns-2 : tie.Need-returns-2 Inv-loop μ-loop
+returns-2 c = refused (λ p. c .if1 .taken (long-is _ _ (sym (c .before .before .f .given .1) ∙ c .before .before .before .before .follow .ensures ∙ p _ (c .before .before .before .before .before .loop-test .taken))))
 
 add-class : tie.Need-add-class Inv-loop μ-loop
 add-class c = search needs
@@ -44,10 +52,10 @@ loop-less : tie.Need-loop-less Inv-loop μ-loop
 loop-less c = search needs
 
 loop-again : tie.Need-loop-again Inv-loop μ-loop
-loop-again c = (omega arith, below-more _ _ (c .before .before .before .loop .inv .1) (c .before .ring-right .ensures .0 (not-false _ (c .if1 .left))))
+loop-again c = (omega arith, below-more _ _ (c .before .before .before .before .before .before .loop .inv .1) (sym (c .before .before .before .before .follow .ensures) ∙ c .before .before .f .given .1 ∙ ap Long (c .if1 .left)))
 
-returns-2 : tie.Need-returns-2 Inv-loop μ-loop
-returns-2 c = granted (λ k i. c .before .loop .inv .1 k (omega (arith, i)))
+returns-3 : tie.Need-returns-3 Inv-loop μ-loop
+returns-3 c = granted (λ k i. c .before .loop .inv .1 k (omega (arith, i)))
 
 pub rings-right-spec : {M : Type 1} → statement M
 rings-right-spec =
@@ -56,12 +64,15 @@ rings-right-spec =
     Inv-loop
     μ-loop
     loop-holds
-    cast-ring-right
-    mul-ring-right
-    array-read-ring-right
-    ring-right-requires
+    follow-requires
+    enum-told
     returns
+    enum-known-f
+    cast-if1
+    mul-if1
+    array-read-if1
+    returns-2
     add-class
     loop-less
     loop-again
-    returns-2)
+    returns-3)
