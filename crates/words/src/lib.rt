@@ -30,7 +30,6 @@ pub use names::link_to_hdr;
 pub use names::offset_to_hdr;
 pub use names::payload_to_hdr;
 pub use sizes::chunk_size_to_list_index;
-pub use sizes::list_index_by_zeros;
 pub use sizes::monus;
 pub use sizes::rounded_size;
 pub use sizes::start_index;

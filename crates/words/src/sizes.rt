@@ -24,22 +24,9 @@ pub fn rounded_size(size: u32) -> u64
     }
 }
 
-// The class of a chunk length: the number of its free list. Five doublings from 16; the last class is open.
+// The class of a chunk length, the number of its free list: how often 16 was doubled, counted by the leading zeros of the length. The last
+// class is open. All 32-bit lengths have a class; below 16 it is 0.
 pub fn chunk_size_to_list_index(size: u32) -> u16
-    ensures { λ r. ⌜ r ≡ classOf size ⌝ }
-{
-    match size {
-        0..=31 => 0,
-        32..=63 => 1,
-        64..=127 => 2,
-        128..=255 => 3,
-        256..=511 => 4,
-        _ => 5,
-    }
-}
-
-// The class as heap.rs reckons it, by leading zeros: the same for every 32-bit length.
-pub fn list_index_by_zeros(size: u32) -> u16
     ensures { λ r. ⌜ r ≡ classOf size ⌝ }
 {
     let zeros = u32::leading_zeros(size);
