@@ -5,6 +5,7 @@
                wrong frees, sizes at the limits and lines that are no frames among them
     calls      the part on the largest heap again, as calls that any heap can serve: a slot in place of an offset
     crowd      a heap with so many used chunks, then with every other one free: how a call's time grows
+    turns      every kind of call once, on heaps in three states: those of oracle/between.rs, which looks whether cache or lists serve them
 """
 
 import os
@@ -130,3 +131,33 @@ def crowd(chunks, every_other):
         lines += [call(TAKE_BACK, slot, 0) for slot in range(0, chunks, 2)]
     lines += [call(AUDIT, 0, 0), call(HAND_OUT, chunks, 40), call(TAKE_BACK, chunks, 0)]
     return b"".join(lines)
+
+
+def turns(state):
+    """Calls on a heap in a state, each with what it is called in a table, or with nothing if it only leads there."""
+    if state == "small":
+        lead = [call(MAKE, 0, 33), call(HAND_OUT, 0, 12), call(TAKE_BACK, 0, 0)]
+        return [(None, line) for line in lead] + [
+            ("audit", call(AUDIT, 0, 0)),
+            ("hand out 20 bytes, lists", call(HAND_OUT, 0, 20)),
+            ("hand out 12 bytes, cache", call(HAND_OUT, 1, 12)),
+            ("take back 20 bytes, only cached", call(TAKE_BACK, 0, 0)),
+            ("take back 12 bytes, older one merged", call(TAKE_BACK, 1, 0)),
+        ]
+    # the last free chunk is parted in two, with a used one between them, so that what is cut off is merged again
+    lead = [call(MAKE, 0, model.TRACE_WORDS)]
+    if state == "fragmented":
+        lead += [call(HAND_OUT, slot, 12) for slot in range(3_940)]
+        lead += [call(TAKE_BACK, slot, 0) for slot in range(0, 3_940, 2)]
+    lead += [call(HAND_OUT, 4_000, 1_100 if state == "fragmented" else 30_000), call(HAND_OUT, 4_001, 20), call(TAKE_BACK, 4_000, 0)]
+    lead += [call(HAND_OUT, 4_000, 12), call(TAKE_BACK, 4_000, 0)]
+    lines = [(None, line) for line in lead] + [("audit", call(AUDIT, 0, 0))]
+    for size in (540, 12):
+        lines += [(f"hand out {size} bytes, lists", call(HAND_OUT, 4_000, size))]
+        lines += [(f"take back {size} bytes, older one merged", call(TAKE_BACK, 4_000, 0))]
+    lines += [(None, call(HAND_OUT, 4_000, 60)), (None, call(TAKE_BACK, 4_000, 0))]
+    lines += [("hand out 60 bytes, cache", call(HAND_OUT, 4_000, 60)), ("take back 60 bytes, only cached", call(TAKE_BACK, 4_000, 0))]
+    if state == "fresh":
+        for place in ("lists", "cache"):
+            lines += [(f"hand out 16 KiB, {place}", call(HAND_OUT, 4_000, 16_384)), (None, call(TAKE_BACK, 4_000, 0))]
+    return lines

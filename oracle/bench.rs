@@ -5,6 +5,12 @@
 //! Prints the figures, writes them into docs/BENCHMARKS.md between its two marks, and draws docs/benchmarks.svg. Status 1 if the
 //! audit misses a target by more than twice.
 
+#[path = "compare-parts/door.rs"]
+mod door;
+#[path = "compare-parts/measure.rs"]
+mod measure;
+#[path = "compare-parts/states.rs"]
+mod states;
 // The bench uses a part of these two.
 #[allow(dead_code)]
 #[path = "compare-parts/numbers.rs"]
@@ -13,29 +19,14 @@ mod numbers;
 #[path = "compare-parts/port.rs"]
 mod port;
 
+use measure::{ratio, Ratio, REPEATS, SPELLS};
 use numbers::Numbers;
 use oracle::Oracle;
-use port::Record;
+use port::DOOR;
+use states::{bring, long, Heap, Requests, Shape, WORDS};
 use std::fs;
 use std::hint::black_box;
 use std::process::exit;
-use std::thread::sleep;
-use std::time::{Duration, Instant};
-
-/// The words of the long heaps.
-const WORDS: u32 = 16_383;
-
-/// How often each ratio is measured.
-const REPEATS: usize = 31;
-
-/// The pause between repeats: they should see the computer at different moments.
-const PAUSE: Duration = Duration::from_millis(60);
-
-/// Of how many spells of each side, taken in turns, a repeat keeps the fastest.
-const SPELLS: usize = 20;
-
-/// Seconds that a spell takes at least: so short that many are not interrupted by whatever else the computer does.
-const SPELL: f64 = 0.0005;
 
 /// The lines of docs/BENCHMARKS.md between which the figures stand.
 const BEGIN: &str = "<!-- oracle/bench: begin -->";
@@ -48,54 +39,12 @@ Figures that were measured, how, and how to measure them again. Nothing here is 
 
 ";
 
-/// A ratio measured several times.
-struct Ratio {
+/// A ratio with what is said of it.
+struct Row {
     name: String,
     /// What it should not exceed, if something is said.
     target: Option<f64>,
-    /// Nanoseconds of the numerator and of the denominator.
-    over: f64,
-    under: f64,
-    least: f64,
-    median: f64,
-    most: f64,
-}
-
-/// A heap of the port.
-struct Heap {
-    record: Record,
-    words: Vec<u32>,
-}
-
-/// What a state is made by: asks of one size, of which every so-many-th is freed, and asks that stay.
-struct Shape {
-    words: u32,
-    asks: u32,
-    size: u32,
-    free_every: u32,
-    /// The last one is freed first, so that the first chunk is the cached one at the end.
-    backwards: bool,
-}
-
-/// Something that asks and frees: the port or the Rust.
-trait Requests {
-    /// Ask for bytes that there are.
-    fn ask(&mut self, size: u32) -> u32;
-    /// Free a live payload.
-    fn free(&mut self, payload: u32);
-}
-
-impl Requests for Heap {
-    fn ask(&mut self, size: u32) -> u32 {
-        let reply = port::hand_out(&mut self.record, &mut self.words, size);
-        assert_eq!(reply.number, 0, "there is room");
-        reply.value
-    }
-
-    fn free(&mut self, payload: u32) {
-        let reply = port::take_back(&mut self.record, &mut self.words, payload);
-        assert_eq!(reply.number, 0, "the payload is live");
-    }
+    ratio: Ratio,
 }
 
 impl Requests for Oracle {
@@ -106,35 +55,6 @@ impl Requests for Oracle {
     fn free(&mut self, payload: u32) {
         // Safety: the bench frees live payloads only.
         unsafe { self.take_back(payload) }
-    }
-}
-
-/// A heap of the port, made.
-fn made(words: u32) -> Heap {
-    let mut heap = Heap {
-        record: Record::default(),
-        words: vec![0; words as usize],
-    };
-    let reply = port::make(&mut heap.record, &mut heap.words, words);
-    assert_eq!(reply.number, 0, "{words} words are made");
-    heap
-}
-
-/// Bring a heap that was just made into a shape.
-fn bring(heap: &mut impl Requests, shape: &Shape) {
-    let payloads: Vec<u32> = (0..shape.asks).map(|_| heap.ask(shape.size)).collect();
-    if shape.free_every == 0 {
-        return;
-    }
-    let mut frees: Vec<u32> = payloads
-        .into_iter()
-        .step_by(shape.free_every as usize)
-        .collect();
-    if shape.backwards {
-        frees.reverse();
-    }
-    for payload in frees {
-        heap.free(payload);
     }
 }
 
@@ -150,91 +70,28 @@ fn walk(words: &[u32]) -> usize {
     chunks
 }
 
-/// How many chunks of a heap are used and free.
-fn counts(words: &[u32]) -> (usize, usize) {
-    let (mut at, mut used, mut free) = (0, 0, 0);
-    while at + 1 < words.len() {
-        if words[at] % 4 >= 2 {
-            used += 1;
-        } else {
-            free += 1;
-        }
-        at += (words[at] / 8 * 2) as usize;
+impl Row {
+    /// Measure it, and say it on one line.
+    fn new(name: String, target: Option<f64>, over: impl FnMut(), under: impl FnMut()) -> Row {
+        let row = Row {
+            name,
+            target,
+            ratio: ratio(over, under),
+        };
+        row.print();
+        row
     }
-    (used, free)
-}
 
-/// Nanoseconds that something takes, over so many times.
-fn time(times: u64, mut act: impl FnMut()) -> f64 {
-    let start = Instant::now();
-    for _ in 0..times {
-        act();
-    }
-    start.elapsed().as_secs_f64() * 1e9 / times as f64
-}
-
-/// So many times that it takes a spell.
-fn times_of(mut act: impl FnMut()) -> u64 {
-    let mut times = 1;
-    loop {
-        let spent = time(times, &mut act) * times as f64 / 1e9;
-        if spent > SPELL {
-            return times;
-        }
-        times *= 2;
-    }
-}
-
-/// Nanoseconds that two things take: of several spells of both, taken in turns, the fastest of either.
-fn fastest(over: &mut impl FnMut(), under: &mut impl FnMut(), times: (u64, u64)) -> (f64, f64) {
-    (0..SPELLS).fold((f64::MAX, f64::MAX), |best, _| {
-        let over = time(times.0, &mut *over);
-        let under = time(times.1, &mut *under);
-        (best.0.min(over), best.1.min(under))
-    })
-}
-
-/// The ratio of what two things take.
-fn ratio(
-    name: String,
-    target: Option<f64>,
-    mut over: impl FnMut(),
-    mut under: impl FnMut(),
-) -> Ratio {
-    let times = (times_of(&mut over), times_of(&mut under));
-    let mut pairs: Vec<(f64, f64)> = (0..REPEATS)
-        .map(|_| {
-            sleep(PAUSE);
-            fastest(&mut over, &mut under, times)
-        })
-        .collect();
-    pairs.sort_by(|a, b| (a.0 / a.1).total_cmp(&(b.0 / b.1)));
-    let of = |at: usize| pairs[at].0 / pairs[at].1;
-    let (over, under) = pairs[REPEATS / 2];
-    let measured = Ratio {
-        name,
-        target,
-        over,
-        under,
-        least: of(0),
-        median: of(REPEATS / 2),
-        most: of(REPEATS - 1),
-    };
-    measured.print();
-    measured
-}
-
-impl Ratio {
     /// Say it on one line.
     fn print(&self) {
         println!(
             "{}: {:.2} ({:.2} to {:.2}), {:.0} ns over {:.1} ns{}",
             self.name,
-            self.median,
-            self.least,
-            self.most,
-            self.over,
-            self.under,
+            self.ratio.median,
+            self.ratio.least,
+            self.ratio.most,
+            self.ratio.over,
+            self.ratio.under,
             self.target.map_or(String::new(), |target| format!(
                 ", target {target}: {}",
                 self.verdict()
@@ -246,30 +103,26 @@ impl Ratio {
     fn verdict(&self) -> &'static str {
         match self.target {
             None => "",
-            Some(target) if self.median <= target => "met",
+            Some(target) if self.ratio.median <= target => "met",
             Some(_) => "missed",
         }
     }
 }
 
 /// The audit alone against one walk of the same words.
-fn audit_ratio(name: &str, target: Option<f64>, shape: &Shape) -> Ratio {
-    let mut heap = made(shape.words);
+fn audit_ratio(name: &str, target: Option<f64>, shape: &Shape) -> Row {
+    let mut heap = Heap::made(DOOR, shape.words);
     bring(&mut heap, shape);
-    let (used, free) = counts(&heap.words);
-    assert_eq!(
-        port::audit(&heap.record, &heap.words),
-        1,
-        "the heap is sound"
-    );
-    ratio(
+    let (used, free) = heap.counts();
+    assert_eq!(heap.audit(), 1, "the heap is sound");
+    Row::new(
         format!("{name} ({free} free, {used} used)"),
         target,
         || {
-            black_box(port::audit(black_box(&heap.record), black_box(&heap.words)));
+            black_box(black_box(&heap).audit());
         },
         || {
-            black_box(walk(black_box(&heap.words)));
+            black_box(walk(black_box(heap.words)));
         },
     )
 }
@@ -300,14 +153,14 @@ impl Cycle {
 }
 
 /// Our calls against the Rust's: the same requests put to both.
-fn call_ratio(name: &str, oracle: &mut Oracle, shape: &Shape, sizes: &[u32]) -> Ratio {
-    let mut heap = made(shape.words);
+fn call_ratio(name: &str, oracle: &mut Oracle, shape: &Shape, sizes: &[u32]) -> Row {
+    let mut heap = Heap::made(DOOR, shape.words);
     bring(&mut heap, shape);
     let mut ours = Cycle::new(&mut heap, sizes);
     oracle.make(shape.words);
     bring(oracle, shape);
     let mut theirs = Cycle::new(oracle, sizes);
-    ratio(
+    Row::new(
         name.to_string(),
         None,
         || ours.turn(&mut heap),
@@ -316,21 +169,22 @@ fn call_ratio(name: &str, oracle: &mut Oracle, shape: &Shape, sizes: &[u32]) -> 
 }
 
 /// The rows of a table.
-fn rows(ratios: &[Ratio]) -> String {
-    let row = |r: &Ratio| {
-        let target = r
+fn rows(rows: &[Row]) -> String {
+    let line = |row: &Row| {
+        let target = row
             .target
-            .map_or(String::new(), |t| format!(" {t} ({}) |", r.verdict()));
+            .map_or(String::new(), |t| format!(" {t} ({}) |", row.verdict()));
+        let r = &row.ratio;
         format!(
             "| {} | {:.1} | {:.1} to {:.1} |{target}\n",
-            r.name, r.median, r.least, r.most
+            row.name, r.median, r.least, r.most
         )
     };
-    ratios.iter().map(row).collect()
+    rows.iter().map(line).collect()
 }
 
 /// The sections of docs/BENCHMARKS.md that this program writes.
-fn sections(audits: &[Ratio], untargeted: &[Ratio], calls: &[Ratio]) -> String {
+fn sections(audits: &[Row], untargeted: &[Row], calls: &[Row]) -> String {
     format!(
         "{BEGIN}
 ## The audit against one walk of the tiling
@@ -393,10 +247,11 @@ fn place(ratio: f64) -> f64 {
 }
 
 /// A bar of the plot with its spread and its target.
-fn bar(at: usize, ratio: &Ratio) -> String {
+fn bar(at: usize, row: &Row) -> String {
     let y = 46 + 26 * at;
+    let ratio = &row.ratio;
     let (end, least, most) = (place(ratio.median), place(ratio.least), place(ratio.most));
-    let target = ratio.target.map_or(String::new(), |target| {
+    let target = row.target.map_or(String::new(), |target| {
         let x = place(target);
         format!(
             "<path d=\"M{x:.1} {} v22\" stroke=\"#c00\" stroke-width=\"2\"/>\n",
@@ -409,22 +264,22 @@ fn bar(at: usize, ratio: &Ratio) -> String {
          <path d=\"M{least:.1} {} H{most:.1}\" stroke=\"#000\"/>\n\
          <text x=\"{:.1}\" y=\"{}\">{:.1}</text>\n{target}",
         y + 13,
-        ratio.name,
+        row.name,
         end - 340.0,
         y + 9,
-        most.max(ratio.target.map_or(0.0, place)) + 6.0,
+        most.max(row.target.map_or(0.0, place)) + 6.0,
         y + 13,
         ratio.median
     )
 }
 
 /// The plot.
-fn plot(ratios: &[&Ratio]) -> String {
-    let height = 46 + 26 * ratios.len();
-    let bars: String = ratios
+fn plot(rows: &[&Row]) -> String {
+    let height = 46 + 26 * rows.len();
+    let bars: String = rows
         .iter()
         .enumerate()
-        .map(|(at, ratio)| bar(at, ratio))
+        .map(|(at, row)| bar(at, row))
         .collect();
     let scale: String = [1.0, 10.0, 100.0, 1000.0, 10_000.0]
         .map(|mark| {
@@ -443,19 +298,8 @@ fn plot(ratios: &[&Ratio]) -> String {
     )
 }
 
-/// A shape of the long heap; the last chunk freed, so the cached one, is the last of the heap unless it is brought backwards.
-fn long(asks: u32, size: u32, free_every: u32) -> Shape {
-    Shape {
-        words: WORDS,
-        asks,
-        size,
-        free_every,
-        backwards: false,
-    }
-}
-
 /// The audit on the states that have a target.
-fn audits() -> Vec<Ratio> {
+fn audits() -> Vec<Row> {
     vec![
         audit_ratio("about 2,000 free", Some(20.0), &long(4000, 12, 2)),
         audit_ratio("about 200 free", Some(4.0), &long(4000, 12, 20)),
@@ -464,7 +308,7 @@ fn audits() -> Vec<Ratio> {
 }
 
 /// The audit on states that have none.
-fn more_audits() -> Vec<Ratio> {
+fn more_audits() -> Vec<Row> {
     let early = Shape {
         backwards: true,
         ..long(4000, 12, 20)
@@ -479,7 +323,7 @@ fn more_audits() -> Vec<Ratio> {
 }
 
 /// Our calls over the Rust's on three states.
-fn calls() -> Vec<Ratio> {
+fn calls() -> Vec<Row> {
     let mut oracle = Oracle::only();
     let shape = |words, asks, free_every| Shape {
         words,
@@ -509,17 +353,16 @@ fn calls() -> Vec<Ratio> {
 fn main() -> std::io::Result<()> {
     let (audits, more, calls) = (audits(), more_audits(), calls());
     write_sections(&sections(&audits, &more, &calls))?;
-    let all: Vec<&Ratio> = audits.iter().chain(&more).chain(&calls).collect();
+    let all: Vec<&Row> = audits.iter().chain(&more).chain(&calls).collect();
     fs::write("docs/benchmarks.svg", plot(&all))?;
-    let wide = |ratio: &&Ratio| {
-        ratio
-            .target
-            .is_some_and(|target| ratio.median > 2.0 * target)
+    let wide = |row: &&Row| {
+        row.target
+            .is_some_and(|target| row.ratio.median > 2.0 * target)
     };
     let missed: Vec<&str> = audits
         .iter()
         .filter(wide)
-        .map(|ratio| ratio.name.as_str())
+        .map(|row| row.name.as_str())
         .collect();
     if !missed.is_empty() {
         eprintln!("bench: more than twice the target: {}", missed.join("; "));

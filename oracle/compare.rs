@@ -11,6 +11,8 @@
 mod audit;
 #[path = "compare-parts/damage.rs"]
 mod damage;
+#[path = "compare-parts/door.rs"]
+mod door;
 #[path = "compare-parts/numbers.rs"]
 mod numbers;
 #[path = "compare-parts/pair.rs"]

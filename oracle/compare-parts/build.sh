@@ -1,4 +1,5 @@
-# For oracle/compare and oracle/bench, which run this in the repository's root: builds what they link.
+# For oracle/compare, oracle/bench and oracle/between, which run this in the repository's root: builds what they link.
+# RT names another command than rt, which then has to do as rt does.
 
 archive=target/staticlib/libdoor.a
 
@@ -9,11 +10,16 @@ newer_sources() {
     done
 }
 
-# build the proved library if it is not there or a source is newer, and the oracle; then a program over both
-build_program() {
+# build the proved library of this folder if it is not there or a source is newer
+build_library() {
     if [ ! -f $archive ] || [ -n "$(newer_sources)" ]; then
-        rt staticlib door
+        ${RT:-rt} staticlib door
     fi
+}
+
+# build the library and the oracle; then a program over both
+build_program() {
+    build_library
     oracle/build
     rustc -O --edition 2021 --extern oracle=target/oracle/release/liboracle.rlib -L native=target/staticlib \
         -o "target/oracle/release/$1" "oracle/$1.rs"
