@@ -1,12 +1,11 @@
 -- SETTING A PAYLOAD TO 0, word by word: a turn of the loop, its end, and that on record and words it is the rules' emptying. Assumes nothing.
 use mathlib.Core.Path.{_≡_, refl, ap, _∙_}
-use mathlib.Core.Logic.{_⊎_, inl, inr}
 use mathlib.Core.Bool.{Bool, true, false}
 use mathlib.Core.List.{List}
 use Prim.Native.Nat.{ℕ, zero, suc, _+_, _-_, _/_, _≤_, _<_, min}
 use native.Mathlib.Omega.{arith}
 use lib.Dec.{leb}
-use lib.ListN.{length, set, length-set}
+use lib.ListN.{length, set}
 use lib.Seq.{set-out}
 use borrow.Author.Tests.{leb-true, leb-false}
 use Rattle.rules.specs.Steps.{cleared, emptied}

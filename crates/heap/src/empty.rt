@@ -1,6 +1,6 @@
 // Payloads arrive empty: what a handout sets to 0 before it gives a chunk away.
 ghost use mathlib.Core.Path.{_≡_};
-ghost use Prim.Native.Nat.{_+_, _-_, _/_, min};
+ghost use Prim.Native.Nat.{min};
 ghost use Rattle.heap.specs.Chunk.{emptiedIn};
 use words::WordIndex;
 

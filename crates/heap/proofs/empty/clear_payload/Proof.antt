@@ -12,7 +12,7 @@ use Rattle.heap.proofs.empty.clear_payload.Tie as tie
 
 abbrev Inv-loop : tie.InvT-loop
 Inv-loop heap₀ len w end i₀ heap i =
-    (emptiedIn heap₀ w len ≡ clearedIn heap i (w + len / 4 - i)) × (length heap ≡ length heap₀) × (w < i) × (w < length heap₀)
+    (emptiedIn heap₀ w len ≡ clearedIn heap i (w + len / 4 - i)) × (length heap ≡ length heap₀) × (w < length heap₀)
     × (end ≡ w + min (len / 4) (length heap₀ - w))
 
 abbrev μ-loop : tie.MeasureT-loop
@@ -37,13 +37,13 @@ add-i : tie.Need-add-i Inv-loop μ-loop
 add-i c = search needs
 
 loop-holds : tie.Need-loop-holds Inv-loop μ-loop
-loop-holds c = (emptied-start _ _ _, refl, omega arith, c .before .if1 .left, omega (arith, c .smaller .ensures))
+loop-holds c = (emptied-start _ _ _, refl, c .before .if1 .left, omega (arith, c .smaller .ensures))
 
 mul-heap : tie.Need-mul-heap Inv-loop μ-loop
 mul-heap c = search needs
 
 slice-write-heap : tie.Need-slice-write-heap Inv-loop μ-loop
-slice-write-heap c = omega (arith, c .before .loop .inv .1, c .before .loop .inv .3, c .before .loop .inv .4, c .loop-test .taken)
+slice-write-heap c = omega (arith, c .before .loop .inv .1, c .before .loop .inv .2, c .before .loop .inv .3, c .loop-test .taken)
 
 add-i-2 : tie.Need-add-i-2 Inv-loop μ-loop
 add-i-2 c = search needs
@@ -53,18 +53,17 @@ loop-less c = omega arith
 
 loop-again : tie.Need-loop-again Inv-loop μ-loop
 loop-again c = (
-  c .before .loop .inv .0 ∙ cleared-turn _ _ _ (omega (arith, c .before .loop .inv .4, c .loop-test .taken)),
+  c .before .loop .inv .0 ∙ cleared-turn _ _ _ (omega (arith, c .before .loop .inv .3, c .loop-test .taken)),
   length-set (c .before .loop .heap) (c .before .loop .i) 0 ∙ c .before .loop .inv .1,
-  omega (arith, c .before .loop .inv .2),
+  c .before .loop .inv .2,
   c .before .loop .inv .3,
-  c .before .loop .inv .4,
 )
 
 same-length : tie.Need-same-length Inv-loop μ-loop
 same-length c = c .before .loop .inv .1
 
 returns-2 : tie.Need-returns-2 Inv-loop μ-loop
-returns-2 c = sym (c .before .loop .inv .0 ∙ cleared-end _ _ _ _ _ (omega (arith, c .before .loop .inv .1, c .before .loop .inv .3)) (omega (arith, c .before .loop .inv .1, c .before .loop .inv .4)) (c .loop-test .left))
+returns-2 c = sym (c .before .loop .inv .0 ∙ cleared-end _ _ _ _ _ (omega (arith, c .before .loop .inv .1, c .before .loop .inv .2)) (omega (arith, c .before .loop .inv .1, c .before .loop .inv .3)) (c .loop-test .left))
 
 pub clear-payload-spec : {M : Type 1} → statement M
 clear-payload-spec =
