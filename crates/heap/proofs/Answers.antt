@@ -25,7 +25,7 @@ use Rattle.words.specs.Tags.{at, lengthOf, rightOf, footerOf}
 use Rattle.words.specs.Links.{narrow}
 use Rattle.rules.specs.Ops.{Ops}
 use Rattle.rules.specs.Lists.{Mem}
-use Rattle.rules.specs.Steps.{portion, lengthAt, unlink, link, setLeft, clearLeft, markFree, markUsed, oneChunk, returnExcess, takeChunk, leftFree, rightFree, merge, merged, releaseChunk}
+use Rattle.rules.specs.Steps.{portion, lengthAt, unlink, link, setLeft, clearLeft, markFree, markUsed, oneChunk, returnExcess, takeChunk, emptied, leftFree, rightFree, merge, merged, releaseChunk}
 use Rattle.rules.specs.Search.{Found, nowhere, lost}
 use Rattle.rules.specs.Search as rule
 use Rattle.rules.specs.Rules.{Figures, Outcome, says, byteOf, nameOf, Chosen, none, one, serves, choose, listed, counted, released, firstFit, fromList, fromCache, serve, handOut, live, settled, takeBack}
@@ -37,7 +37,8 @@ use Rattle.heap.specs.declared.record.Record.{Record}
 use Rattle.heap.specs.declared.calls.Answer.{Answer}
 use Rattle.heap.specs.declared.calls.Answer.the-variants.{Done, ZeroSize, TooLarge, NoFit, NotLive, Damaged, BadLength}
 use Rattle.heap.specs.Seen.{seen, base, figuresOf, withCached, countedIn, countedOut, emptyRecord, freshRecord}
-use Rattle.heap.specs.Chunk.{freed, leftFreeIn, rightFreeIn, Releasable}
+use Rattle.heap.specs.Chunk.{freed, leftFreeIn, rightFreeIn, emptiedIn, Releasable}
+use Rattle.heap.proofs.Clears.{emptied-seen}
 use Rattle.heap.specs.Answer.{outcome, soundAt, servedBy, cacheServes, Served}
 use Rattle.audit.specs.Shown.{cachedOf}
 use Rattle.rules.proofs.Store.{Edition}
@@ -162,13 +163,18 @@ module _ (r : Record) (ws : List ℕ) (z : ℕ) where
       go none e = refl
       go (one x ks) e = absurd (let q : _≡_ {A = ℕ} 0 1 = cc in omega arith)
 
-  -- HANDED OUT FROM THE CACHE, whole
-  pub served-cached : (q : Record) (b : Bool) (i : ℕ) (p : ByteOffset) → r .cached .0 < 65536 → b ≡ cacheServes (seen r ws) z → b ≡ true → i ≡ r .cached .0 - 6 → p .0 ≡ heldName payloads i
-      → q ≡ withCached r (record { 0 = 0 }) → outcome (Done p 0) (seen q ws) ≡ serve base 1 soundAt (seen r ws) z
+  -- HANDED OUT FROM THE CACHE, whole, its payload emptied
+  pub served-cached : (q : Record) (ws1 : List ℕ) (b : Bool) (i n : ℕ) (p : ByteOffset) → r .cached .0 < 65536 → b ≡ cacheServes (seen r ws) z → b ≡ true → i ≡ r .cached .0 - 6
+      → n ≡ lengthOf (at ws i) → ws1 ≡ emptiedIn ws i n → p .0 ≡ heldName payloads i → q ≡ withCached r (record { 0 = 0 })
+      → outcome (Done p 0) (seen q ws1) ≡ serve base 1 soundAt (seen r ws) z
   unfolding serve fromCache
-  served-cached q b i p hl eb h ei ep eq =
+  served-cached q ws1 b i n p hl eb h ei en ec ep eq =
       let v : p .0 ≡ byteOf (r .cached .0) + 4 = payload-place (r .cached .0) i (p .0) ei (omega arith) ep in
-      rw (chosen-yes (sym eb ∙ h), v, eq) refl
+      let k : n ≡ lengthAt base (seen r ws) (r .cached .0) = en ∙ ap (λ (j : ℕ). lengthOf (at ws j)) ei in
+      let state : seen q ws1 ≡ emptied base (seen q ws) (r .cached .0 - 6) (lengthAt base (seen r ws) (r .cached .0)) =
+      ap (λ (vs : List ℕ). seen q vs) ec ∙ emptied-seen q ws i n ∙ ap (λ (j : ℕ). emptied base (seen q ws) i j) k
+      ∙ ap (λ (j : ℕ). emptied base (seen q ws) j (lengthAt base (seen r ws) (r .cached .0))) ei in
+      rw (chosen-yes (sym eb ∙ h), v, state, eq) refl
 
   -- and not: the lists are searched
   pub served-listed : (o : Outcome State) (b : Bool) → b ≡ cacheServes (seen r ws) z → b ≡ false
@@ -248,11 +254,11 @@ module _ (r : Record) (ws : List ℕ) (z : ℕ) (h : Served (seen r ws) z) where
       go true q = ap (λ (v : ℕ). v % 8) (e ∙ ap (λ (t : Bool). pick t z n) q) ∙ h .eights
       go false q = ap (λ (v : ℕ). v % 8) (e ∙ ap (λ (t : Bool). pick t z n) q) ∙ n8
 
-  pub listed-hit : (a q : Record) (ws1 : List ℕ) (x c i n m j e d : ℕ) (p : ByteOffset) → rule.at x c ≡ firstFit base 1 soundAt (seen r ws) z → i ≡ x - 6 → n ≡ lengthOf (at ws i) → m ≡ portion n z
-      → seen a ws1 ≡ takeChunk base (seen r ws) (x - 6) n z → j ≡ rightOf i m % 2 ^ 64 → e ≡ heldName offsets j → q ≡ countedIn a m e → p .0 ≡ heldName payloads i → d ≡ c
-      → outcome (Done p d) (seen q ws1) ≡ fromList base 1 soundAt (seen r ws) z (firstFit base 1 soundAt (seen r ws) z)
+  pub listed-hit : (a q : Record) (ws1 ws2 : List ℕ) (x c i n m j e d : ℕ) (p : ByteOffset) → rule.at x c ≡ firstFit base 1 soundAt (seen r ws) z → i ≡ x - 6 → n ≡ lengthOf (at ws i) → m ≡ portion n z
+      → seen a ws1 ≡ takeChunk base (seen r ws) (x - 6) n z → ws2 ≡ emptiedIn ws1 i m → j ≡ rightOf i m % 2 ^ 64 → e ≡ heldName offsets j → q ≡ countedIn a m e → p .0 ≡ heldName payloads i → d ≡ c
+      → outcome (Done p d) (seen q ws2) ≡ fromList base 1 soundAt (seen r ws) z (firstFit base 1 soundAt (seen r ws) z)
   unfolding fromList
-  listed-hit a q ws1 x c i n m j e d p ef ei en em ea ej ee eq ep ed =
+  listed-hit a q ws1 ws2 x c i n m j e d p ef ei en em ea ec ej ee eq ep ed =
       let g = found-safe x c ef in
       let f = figures-safe .accepted in
       let v : n ≡ lengthAt base (seen r ws) x = en ∙ ap (λ (k : ℕ). lengthOf (at ws k)) ei in
@@ -266,7 +272,10 @@ module _ (r : Record) (ws : List ℕ) (z : ℕ) (h : Served (seen r ws) z) where
       let kept : figuresOf a ≡ figuresOf r = ap (λ (s : State). s .rest) ea ∙ take-rest (seen r ws) (x - 6) n z in
       let state : seen q ws1 ≡ base .setRest (takeChunk base (seen r ws) (x - 6) n z) (counted (figuresOf r) m (byteOf x + m)) =
       rw (eq, end) (ap (λ (k : Figures). base .setRest (seen a ws1) (counted k m (byteOf x + m))) kept ∙ ap (λ (s : State). base .setRest s (counted (figuresOf r) m (byteOf x + m))) ea) in
-      subst (λ (k : Found). outcome (Done p d) (seen q ws1) ≡ fromList base 1 soundAt (seen r ws) z k) ef (rw (state, pay, ed, em, v) refl)
+      let empty : seen q ws2 ≡ emptied base (base .setRest (takeChunk base (seen r ws) (x - 6) n z) (counted (figuresOf r) m (byteOf x + m))) (x - 6) m =
+      ap (λ (vs : List ℕ). seen q vs) ec ∙ emptied-seen q ws1 i m ∙ ap (λ (s : State). emptied base s i m) state
+      ∙ ap (λ (k : ℕ). emptied base (base .setRest (takeChunk base (seen r ws) (x - 6) n z) (counted (figuresOf r) m (byteOf x + m))) k m) ei in
+      subst (λ (k : Found). outcome (Done p d) (seen q ws2) ≡ fromList base 1 soundAt (seen r ws) z k) ef (rw (empty, pay, ed, em, v) refl)
 
 -- ---- WHAT IS LIVE
 

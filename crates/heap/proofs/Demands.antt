@@ -11,8 +11,8 @@
 --     demand-2-damaged-exact, demand-2-sizes-exact, demand-2-no-fit-exact, demand-2-not-live-exact      each refusal exactly when
 --     demand-2-compared, demand-2-position    the compared count
 -- Demand 3. Two heaps over any two memories, same requests, tasks writing what they like into live payloads: the same answers and the same tags and links;
--- no call changes a word of a payload live before and after it.
---     demand-3-two-runs, demand-3-payload-kept
+-- no call changes a word of a payload live before and after it; at the moment of handout the payload's words are equal in both runs: they are all 0.
+--     demand-3-two-runs, demand-3-payload-kept, demand-3-arrives-empty, demand-3-alike-at-handout
 -- Every premise is a line of its own. What the words mean stands in specs/ here and in crate `rules`; proofs only cite. Assumes nothing.
 use mathlib.Core.Path.{_≡_, refl, sym, ap, _∙_, subst}
 use mathlib.Core.Logic.{_≢_}
@@ -28,7 +28,7 @@ use Rattle.rules.specs.Making.{State, make}
 use Rattle.rules.specs.Machine.{Model, Request, ask, give, madeM}
 use Rattle.rules.specs.Machine as rule
 use Rattle.rules.specs.Sound.{Accepted, Shows, Sound}
-use Rattle.rules.specs.Demands.{NoFit, FromCache, FromList, LiveAt}
+use Rattle.rules.specs.Demands.{NoFit, FromCache, FromList, LiveAt, InPayload}
 use Rattle.rules.specs.TwoRuns.{Event, requests, replies, run}
 use Rattle.rules.specs.Runs.{machine, acts, Same}
 use Rattle.rules.specs.Claims.{Demands, Iff, Allowable}
@@ -203,3 +203,40 @@ pub demand-3-payload-kept : (r : Record) (ws vs : List ℕ) (k : Request) (o : O
 demand-3-payload-kept r ws vs k o i e h g =
     let s = after-call r ws vs k o e in
     ap (λ (v : State). at (v .words) i) s ∙ ours .payload k (seen r ws) i h (subst (λ (v : State). called v i) s g)
+
+pub demand-3-arrives-empty : (r : Record) (ws vs : List ℕ) (n : ℕ) (o : Out) (m : Model)
+    → HandsOut r ws n o vs
+    → number (o .answer) ≡ 0
+    -- record and words after it show the model m
+    → ShowsIn (o .rec) vs m
+    -- the payload is live, and every word after its chunk's header, up to the chunk's end, is 0
+    → LiveAt m (value (o .answer))
+    × ((i : ℕ) → InPayload m (value (o .answer)) i → at vs i ≡ 0)
+demand-3-arrives-empty r ws vs n o m e z h =
+    let s = ap (λ (q : Outcome State). q .after) e in
+    let v = ap (λ (q : Outcome State). q .value) e in
+    let f = ours .empty (seen r ws) m n (sym (ap (λ (q : Outcome State). q .number) e) ∙ z) (subst (λ (t : State). Shows base 65529 1 t m) s h) in
+    (subst (LiveAt m) (sym v) (f .0), λ i p. ap (λ (t : State). at (t .words) i) s ∙ f .1 i (subst (λ (x : ℕ). InPayload m x i) v p))
+
+-- The two runs of `demand-3-two-runs`, and the same handout after each
+pub demand-3-alike-at-handout : (ws ws₀ ws₁ ws₂ us us₀ us₁ us₂ : List ℕ) (o p a b : Out) (q t : Record) (es fs : List (Event Request)) (bs cs : List rule.Answer) (n : ℕ) (m : Model)
+    → length ws ≡ length us
+    → Makes ws o ws₀
+    → Makes us p us₀
+    → number (o .answer) ≡ 0
+    → requests es ≡ requests fs
+    → Run (o .rec) ws₀ es bs q ws₁
+    → Run (p .rec) us₀ fs cs t us₁
+    → HandsOut q ws₁ n a ws₂
+    → HandsOut t us₁ n b us₂
+    -- it is served, and the first heap then shows the model m
+    → number (a .answer) ≡ 0
+    → ShowsIn (a .rec) ws₂ m
+    → (i : ℕ) → InPayload m (value (a .answer)) i → at ws₂ i ≡ at us₂ i
+demand-3-alike-at-handout ws ws₀ ws₁ ws₂ us us₀ us₁ us₂ o p a b q t es fs bs cs n m l e d z s x y ha hb za h i w =
+    let r = demand-3-two-runs ws ws₀ ws₁ us us₀ us₁ o p q t es fs bs cs l e d z s x y .3 in
+    let sa = ap (λ (k : Outcome State). k .after) ha in
+    let sb = ap (λ (k : Outcome State). k .after) hb in
+    let f = ours .alike (seen q ws₁) (seen t us₁) (r .shows) m n (r .left) (r .right) (sym (ap (λ (k : Outcome State). k .number) ha) ∙ za)
+    (subst (λ (k : State). Shows base 65529 1 k m) sa h) i (subst (λ (k : ℕ). InPayload m k i) (ap (λ (k : Outcome State). k .value) ha) w) in
+    ap (λ (k : State). at (k .words) i) sa ∙ f ∙ sym (ap (λ (k : State). at (k .words) i) sb)

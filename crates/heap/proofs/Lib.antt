@@ -3,6 +3,7 @@ pub mod Histories
 pub mod Apart
 pub mod Answers
 pub mod Joins
+pub mod Clears
 pub mod Marks
 pub mod Walks
 pub mod Tiling

@@ -1,7 +1,7 @@
--- The tags that releasing and taking write, on the words alone; and when the sums of a release stay in range.
+-- The tags that releasing and taking write, and what emptying a payload does, on the words alone; and when the sums of a release stay in range.
 use mathlib.Core.Bool.{Bool, true, false}
 use mathlib.Core.List.{List}
-use Prim.Native.Nat.{ℕ, _+_, _-_, _/_, _≤_, _<_}
+use Prim.Native.Nat.{ℕ, zero, suc, _+_, _-_, _/_, _≤_, _<_}
 use lib.ListN.{set}
 use Rattle.words.specs.Choice.{pick}
 use Rattle.words.specs.Tags.{at, headerOf, lengthOf, freeᵇ, leftFreeᵇ, rightOf, footerOf}
@@ -16,6 +16,14 @@ leftFreeIn ws w = pick (leftFreeᵇ (at ws w)) (at ws (w - 1)) 0
 
 unfoldable pub rightFreeIn : List ℕ → ℕ → ℕ
 rightFreeIn ws e = pick (freeᵇ (at ws e)) (lengthOf (at ws e)) 0
+
+-- k words from word i on set to 0; and the payload of the chunk of n bytes at word w: every word after its header, up to its end
+unfoldable pub clearedIn : List ℕ → ℕ → ℕ → List ℕ
+clearedIn ws i zero = ws
+clearedIn ws i (suc k) = clearedIn (set ws i 0) (suc i) k
+
+unfoldable pub emptiedIn : List ℕ → ℕ → ℕ → List ℕ
+emptiedIn ws w n = clearedIn ws (suc w) (n / 4 - 1)
 
 -- 0: no neighbour is free, 1: the left one, 2: the right one, 3: both
 abbrev pub caseOf : Bool → Bool → ℕ

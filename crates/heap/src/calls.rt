@@ -12,6 +12,7 @@ ghost use Rattle.heap.specs.Seen.{seen, base};
 ghost use Rattle.audit.specs.Shown.{cachedOf};
 ghost use Rattle.heap.specs.Promises.{Makes, HandsOut, TakesBack};
 ghost use Rattle.heap.specs.Answer.{outcome, soundAt, cacheServes, Served};
+use super::empty::clear_payload;
 use super::live::used_length;
 use super::merge::set_free_chunk_hdr_ftr;
 use super::record::Record;
@@ -90,7 +91,7 @@ impl Record {
         }
     }
 
-    // Hands out a payload of at least `size` bytes.
+    // Hands out a payload of at least `size` bytes, all of them 0, its slack too.
     pub fn hand_out(self, heap: &mut [u32], size: u32) -> Out
         ensures { λ r. ⌜ HandsOut self (now (heap .entry)) size r (now (heap .exit)) ⌝ }
     {
@@ -199,23 +200,25 @@ impl Record {
         n - z <= Self::SLACK
     }
 
-    // Serves a rounded size on a sound heap: from the cache, else from the lists.
+    // Serves a rounded size on a sound heap: from the cache, else from the lists. The payload arrives empty.
     fn serve(self, heap: &mut [u32], z: u32) -> Out
         requires { ⌜ Served (seen self (now heap)) z ⌝ }
         ensures { λ r. ⌜ outcome (r .answer) (seen (r .rec) (now (heap .exit))) ≡ serve base 1 soundAt (seen self (now (heap .entry))) z ⌝ }
     {
         let hit = self.cache_serves(heap, z);
         if hit {
-            let payload = words::hdr_to_payload(words::link_to_hdr(self.cached));
+            let hdr = words::link_to_hdr(self.cached);
+            let n = words::get_hdr_chunk_size(heap, hdr);
+            clear_payload(heap, hdr, n);
             return Out {
-                answer: Answer::Done(payload, 0),
+                answer: Answer::Done(words::hdr_to_payload(hdr), 0),
                 rec: self.with_cached(Link(0)),
             };
         }
         self.serve_listed(heap, z)
     }
 
-    // Serves a rounded size on a sound heap from the lists.
+    // Serves a rounded size on a sound heap from the lists; what is cleared is the chunk as finally cut.
     fn serve_listed(self, heap: &mut [u32], z: u32) -> Out
         requires { ⌜ Served (seen self (now heap)) z ⌝ }
         ensures { λ r. ⌜ outcome (r .answer) (seen (r .rec) (now (heap .exit))) ≡ fromList base 1 soundAt (seen self (now (heap .entry))) z (firstFit base 1 soundAt (seen self (now (heap .entry))) z) ⌝ }
@@ -236,6 +239,7 @@ impl Record {
                 let n = words::get_hdr_chunk_size(heap, hdr);
                 let m = portion_of(n, z);
                 let a = self.take_chunk(heap, l, n, z);
+                clear_payload(heap, hdr, m);
                 let end = words::hdr_to_offset(words::hdr_to_right_hdr(hdr, m));
                 let rec = a.count_in(m, end.0);
                 Out {

@@ -5,6 +5,7 @@
 --     cached-twice   a cached chunk is not live: giving it back again is refused
 --     TWO RUNS over memories that differ, with stores that differ, one of which writes what looks like a used chunk's header into a live payload: the
 --     hypotheses of `TwoRunsAgree` hold, the answers agree, and payload words differ to the end
+--     arrived        payloads arrive empty in a memory of all 1s, from a list and from the cache, its slack included
 -- Assumes nothing.
 use mathlib.Core.Path.{_≡_, refl}
 use mathlib.Core.List.{List, [], _∷_, List·Memᴰ·not-nil}
@@ -14,7 +15,7 @@ use lib.ListN.{getD, replicate}
 use Rattle.words.specs.Sizes.{classOf}
 use Rattle.words.specs.Links.{narrow, setLinkAt}
 use Rattle.rules.specs.Ops.{Ops}
-use Rattle.rules.specs.Steps.{unlink, link, setLeft, clearLeft, markFree, markUsed, oneChunk, returnExcess, takeChunk, leftFree, rightFree, merge, merged}
+use Rattle.rules.specs.Steps.{unlink, link, setLeft, clearLeft, markFree, markUsed, oneChunk, returnExcess, takeChunk, cleared, emptied, leftFree, rightFree, merge, merged}
 use Rattle.rules.specs.Steps.{releaseChunk}
 use Rattle.rules.specs.State.{ops}
 use Rattle.rules.specs.Search.{find, findWalk, inTurn, searchAll}
@@ -76,7 +77,7 @@ pub record Computed : Type 0 where
 
 pub computed : Computed
 unfolding call handOut takeBack live choose listed make serve fromCache fromList firstFit settled link unlink setLeft clearLeft markFree markUsed oneChunk
-    returnExcess takeChunk leftFree rightFree merge merged releaseChunk setLinkAt classOf findWalk searchAll usedWalk usedAt soundᵇ showsᵇ candidate
+    returnExcess takeChunk cleared emptied leftFree rightFree merge merged releaseChunk setLinkAt classOf findWalk searchAll usedWalk usedAt soundᵇ showsᵇ candidate
     legalᵇ calmᵇ tagsᵇ segᵇ belowᵇ everyᵇ slotᵇ exactᵇ distinctᵇ underᵇ cacheᵇ figuresᵇ tile walk frees
 computed =
     record {
@@ -161,6 +162,17 @@ agree = narrow-demands 1 .runs es fs s t (madeM 33) same-requests s-shows t-show
 pub differ : (answers A fs t ≡ says 0 4 1 ∷ says 0 20 1 ∷ says 0 36 1 ∷ says 0 0 0 ∷ says 0 0 0 ∷ says 4 0 0 ∷ says 0 52 1 ∷ []) × (op .word (run A es s) 2 ≡ 0) ×
     (op .word (run A fs t) 2 ≡ 35)
 unfolding answers run call handOut takeBack live choose listed make serve fromCache fromList firstFit settled link unlink setLeft clearLeft markFree markUsed
-    oneChunk returnExcess takeChunk leftFree rightFree merge merged releaseChunk setLinkAt classOf findWalk searchAll usedWalk usedAt soundᵇ showsᵇ
+    oneChunk returnExcess takeChunk cleared emptied leftFree rightFree merge merged releaseChunk setLinkAt classOf findWalk searchAll usedWalk usedAt soundᵇ showsᵇ
     candidate legalᵇ calmᵇ tagsᵇ segᵇ belowᵇ everyᵇ slotᵇ exactᵇ distinctᵇ underᵇ cacheᵇ figuresᵇ tile walk frees
 differ = (refl, refl, refl)
+
+-- 24 bytes asked for, their last word written, given back, and the same chunk handed out whole for 16
+abbrev again : List (Event Request)
+again = asks (ask 17) ∷ writes 5 7 ∷ asks (give 4) ∷ asks (ask 12) ∷ []
+
+-- the last word of a payload from a list, a word of the free chunk after it, and the last word of a payload from the cache
+pub arrived : (op .word (run A (asks (ask 12) ∷ []) t) 3 ≡ 0) × (op .word (run A (asks (ask 12) ∷ []) t) 6 ≡ 4294967295) × (op .word (run A again t) 5 ≡ 0)
+unfolding run call handOut takeBack live choose listed make serve fromCache fromList firstFit settled link unlink setLeft clearLeft markFree markUsed
+    oneChunk returnExcess takeChunk cleared emptied leftFree rightFree merge merged releaseChunk setLinkAt classOf findWalk searchAll usedWalk usedAt soundᵇ showsᵇ
+    candidate legalᵇ calmᵇ tagsᵇ segᵇ belowᵇ everyᵇ slotᵇ exactᵇ distinctᵇ underᵇ cacheᵇ figuresᵇ tile walk frees
+arrived = (refl, refl, refl)

@@ -14,7 +14,7 @@ use Rattle.words.proofs.Laws.Choice.{bit-small}
 use Rattle.words.specs.Choice.{pick, bit}
 use Rattle.rules.specs.Lists.{Mem, Distinct, Seg}
 use Rattle.rules.specs.Ops.{Ops}
-use Rattle.rules.specs.Steps.{portion, lengthAt, takeChunk, releaseChunk, leftFree}
+use Rattle.rules.specs.Steps.{portion, lengthAt, takeChunk, emptied, releaseChunk, leftFree}
 use Rattle.rules.proofs.Bytes.{takeStep, releaseStep, take-words, release-words}
 use Rattle.rules.proofs.Store.{LinkStore, Edition}
 use Rattle.rules.proofs.Rings.{ring-once}
@@ -25,6 +25,7 @@ use Rattle.rules.specs.Tags.{Tags}
 use Rattle.rules.proofs.Tags.{lastUsed, tags-back}
 use Rattle.rules.proofs.Part.{legal-front, legal-back}
 use Rattle.rules.proofs.Calls.{Whole, total-8}
+use Rattle.rules.proofs.Emptying.{empty-whole, emptied-rest}
 use Rattle.rules.specs.Orders.{mergedOrders, freeLast, freeHead, takenOrders}
 use Rattle.rules.proofs.Release.{release-refines, left-read}
 use Rattle.rules.proofs.Take.{take-refines}
@@ -40,14 +41,14 @@ use Rattle.rules.specs.Rules.{Figures, Outcome, says, byteOf, nameOf, Ch
 use Rattle.rules.specs.Rules.{firstFit, fromList, fromCache, serve, handOut, live, settled, takeBack}
 use Rattle.rules.specs.Machine.{Model, sizeM, tookM, searched, searchM, fromListM, fromCacheM, handOutM, liveM, gaveM, settledM, takeBackM}
 use Rattle.rules.specs.Sound.{Accepted, Under, CacheRight, FiguresRight, Shows}
-use Rattle.rules.proofs.LayoutFacts.{release-used, taken-used, used-len, release-sums, taken-sums, under-more, under-release, under-taken}
+use Rattle.rules.proofs.LayoutFacts.{release-used, taken-used, taken-there, used-len, release-sums, taken-sums, under-more, under-release, under-taken}
 
 -- ---- the cache, as a list
 
--- what was chosen serves, is one of ks, and the others are the rest of ks; where none is chosen none serves
+-- what was chosen serves, is one of ks, and the others are the rest of ks, all different from it; where none is chosen none serves
 abbrev pub Picked : (ℕ → ℕ) → ℕ → List ℕ → Chosen → Type 0
 Picked size z ks none = (y : ℕ) → Mem y ks → serves (size y) z ≡ false
-Picked size z ks (one x xs) = (serves (size x) z ≡ true) × Mem x ks × ((y : ℕ) → Mem y xs → Mem y ks) × (Distinct ks → Distinct xs) × (length xs < length ks)
+Picked size z ks (one x xs) = (serves (size x) z ≡ true) × Mem x ks × ((y : ℕ) → Mem y xs → Mem y ks) × (Distinct ks → Distinct (x ∷ xs)) × (length xs < length ks)
 
 pub choose-picked : (size : ℕ → ℕ) (z : ℕ) (ks : List ℕ) → Picked size z ks (choose size z ks)
 unfolding choose
@@ -58,15 +59,19 @@ choose-picked size z (k ∷ ks) = go (serves (size k) z) refl (choose size z ks)
     wide x xs f y (List·Memᴰ·head e) = List·Memᴰ·head e
     wide x xs f y (List·Memᴰ·tail m) = List·Memᴰ·tail (f y m)
 
+    apart : (x : ℕ) (xs : List ℕ) → Mem x ks → (Mem k ks → ⊥) → (Mem x xs → ⊥) → Mem x (k ∷ xs) → ⊥
+    apart x xs i f g (List·Memᴰ·head e) = f (subst (λ (y : ℕ). Mem y ks) e i)
+    apart x xs i f g (List·Memᴰ·tail m) = g m
+
     all : serves (size k) z ≡ false → ((y : ℕ) → Mem y ks → serves (size y) z ≡ false) → (y : ℕ) → Mem y (k ∷ ks) → serves (size y) z ≡ false
     all e f y (List·Memᴰ·head q) = ap (λ (x : ℕ). serves (size x) z) q ∙ e
     all e f y (List·Memᴰ·tail m) = f y m
 
     go : (t : Bool) → serves (size k) z ≡ t → (r : Chosen) → Picked size z ks r → Picked size z (k ∷ ks) (pick t (one k ks) (behind k r))
-    go true e r p = (e, List·Memᴰ·head refl, λ y m. List·Memᴰ·tail m, λ d. d .1, omega arith)
+    go true e r p = (e, List·Memᴰ·head refl, λ y m. List·Memᴰ·tail m, λ d. d, omega arith)
     go false e none p = all e p
     go false e (one x xs) p = let q = p .4 in
-        (p .0, List·Memᴰ·tail (p .1), wide x xs (p .2), λ d. (λ m. d .0 (p .2 k m), p .3 (d .1)), omega arith)
+        (p .0, List·Memᴰ·tail (p .1), wide x xs (p .2), λ d. (apart x xs (p .1) (d .0) (p .3 (d .1) .0), (λ m. d .0 (p .2 k m), p .3 (d .1) .1)), omega arith)
 
 pub choose-same : (f g : ℕ → ℕ) (z : ℕ) (ks : List ℕ) → ((x : ℕ) → Mem x ks → f x ≡ g x) → choose f z ks ≡ choose g z ks
 unfolding choose
@@ -134,12 +139,19 @@ portion-8 n z a b = go (leb (z + 12) n)
     go true = b
     go false = a
 
-portion-le : (n z : ℕ) → portion n z ≤ n
+pub portion-le : (n z : ℕ) → portion n z ≤ n
 portion-le n z = go (leb (z + 12) n) refl
   where
     go : (t : Bool) → leb (z + 12) n ≡ t → pick t z n ≤ n
     go true e = let h = leb-true (z + 12) n e in omega arith
     go false e = omega arith
+
+pub portion-least : (k n z : ℕ) → k ≤ n → k ≤ z → k ≤ portion n z
+portion-least k n z a b = go (leb (z + 12) n)
+  where
+    go : (t : Bool) → k ≤ pick t z n
+    go true = b
+    go false = a
 
 freeLast-8 : (f : ℕ) (cs : List Chunk) → f % 8 ≡ 0 → Legal cs → freeLast f cs % 8 ≡ 0
 freeLast-8 f [] h l = h
@@ -290,8 +302,19 @@ module _ {S : Type 0} {op : Ops S Figures} {most places : ℕ} (E : Edition op m
         (h .words) c
         (record { inUse = h .right .inUse; peak = h .right .peak; high = h .right .high; heap = h .right .heap; eights = h .right .eights; ends = h .right .ends }))
 
+    -- the payload of a used chunk is emptied: the model stays
+    pub emptied-shows : (x n : ℕ) → 6 ≤ x → usedAt (m .cs) (byteOf x) ≡ n → 0 < n → Sh (emptied op s (x - 6) n) m
+    emptied-shows x n x6 e p =
+        let u = used-at (m .cs) (byteOf x) (omega arith) in
+        let c : m .cs ≡ u .pre ++ busy n ∷ u .post = u .is ∙ ap (λ (k : ℕ). u .pre ++ busy k ∷ u .post) e in
+        let b : (x - 6) * 4 ≡ total (u .pre) = u .byte in
+        let w = empty-whole L classOf class-below (m .orders) (u .pre) n (u .post) s (x - 6) (omega arith)
+        (subst (λ cs. Whole L classOf class-below s (m .orders) cs) c whole) in
+        shown (op .count s) (h .accepted) (emptied op s (x - 6) n) m (subst (λ cs. Whole L classOf class-below (emptied op s (x - 6) n) (m .orders) cs) (sym c) w)
+        (h .calm) (emptied-rest L s (x - 6) n ∙ h .figs) (h .words) (h .cache) (h .right)
+
   -- TAKEN from a list
-  took : (s : S) (pre : List Chunk) (n : ℕ) (post : List Chunk) (O : ℕ → List ℕ) (f : Figures) (x z : ℕ) → 16 ≤ z → z % 8 ≡ 0 → x ≡ (0 + total pre) / 4 + 6
+  pub took : (s : S) (pre : List Chunk) (n : ℕ) (post : List Chunk) (O : ℕ → List ℕ) (f : Figures) (x z : ℕ) → 16 ≤ z → z % 8 ≡ 0 → x ≡ (0 + total pre) / 4 + 6
       → Sh s (model (pre ++ free n ∷ post) O f)
       → Sh (op .setRest (takeChunk op s (x - 6) (lengthAt op s x) z) (counted (op .rest s) (portion (lengthAt op s x) z) (byteOf x + portion (lengthAt op s x) z)))
       (tookM (model (pre ++ free n ∷ post) O f) x (lenAt (pre ++ free n ∷ post) (byteOf x)) z)
@@ -336,6 +359,31 @@ module _ {S : Type 0} {op : Ops S Figures} {most places : ℕ} (E : Edition op m
     where
       free-seam : (pre : List Chunk) (n : ℕ) (post : List Chunk) → (getD (pre ++ free n ∷ post) (length pre) (busy 0)) .used ≡ false
       free-seam pre n post = ap (λ (c : Chunk). c .used) (getD-append-seam pre (free n) post (busy 0))
+
+  -- the chunk taken is a used one, and its payload is emptied
+  pub took-used : (s : S) (pre : List Chunk) (n : ℕ) (post : List Chunk) (O : ℕ → List ℕ) (f : Figures) (x z : ℕ) → x ≡ (0 + total pre) / 4 + 6
+      → Sh s (model (pre ++ free n ∷ post) O f)
+      → usedAt (tookM (model (pre ++ free n ∷ post) O f) x (lenAt (pre ++ free n ∷ post) (byteOf x)) z .cs) (byteOf x) ≡ portion (lengthAt op s x) z
+  unfolding tookM
+  took-used s pre n post O f x z e h =
+      let w = whole s (model (pre ++ free n ∷ post) O f) h in
+      let lp = legal-front pre (free n ∷ post) (h .legal) in
+      let b : byteOf x ≡ total pre = byte-at pre x lp e ∙ zero-add (total pre) in
+      rw (size-at L′ classOf class-below s O pre n post x e w, b, index-at pre (free n) post (total pre) lp refl) (taken-there pre n post z lp)
+    where
+      L′ : LinkStore op
+      L′ = L s (model (pre ++ free n ∷ post) O f) h
+
+  took-emptied : (s : S) (pre : List Chunk) (n : ℕ) (post : List Chunk) (O : ℕ → List ℕ) (f : Figures) (x z : ℕ) → 16 ≤ z → z % 8 ≡ 0 → x ≡ (0 + total pre) / 4 + 6
+      → Sh s (model (pre ++ free n ∷ post) O f)
+      → Sh (emptied op (op .setRest (takeChunk op s (x - 6) (lengthAt op s x) z) (counted (op .rest s) (portion (lengthAt op s x) z) (byteOf x + portion (lengthAt op s x) z)))
+      (x - 6) (portion (lengthAt op s x) z))
+      (tookM (model (pre ++ free n ∷ post) O f) x (lenAt (pre ++ free n ∷ post) (byteOf x)) z)
+  took-emptied s pre n post O f x z z16 z8 e h =
+      let n16 : 16 ≤ n = (legal-back pre (free n ∷ post) (h .legal)) .0 in
+      let y : lengthAt op s x ≡ n = size-at (L s (model (pre ++ free n ∷ post) O f) h) classOf class-below s O pre n post x e (whole s (model (pre ++ free n ∷ post) O f) h) in
+      emptied-shows _ _ (took s pre n post O f x z z16 z8 e h) x (portion (lengthAt op s x) z) (omega arith) (took-used s pre n post O f x z e h)
+      (portion-least 1 (lengthAt op s x) z (omega arith) (omega arith))
 
   -- the free bytes on the left of a used chunk: words that stand before it
   pub left-there : (L : LinkStore op) (s : S) (pre : List Chunk) (n : ℕ) (post : List Chunk) (k : ℕ) → byteOf k ≡ total pre → 6 ≤ k → Legal (pre ++ busy n ∷ post)
@@ -435,10 +483,10 @@ module _ {S : Type 0} {op : Ops S Figures} {most places : ℕ} (E : Edition op m
           value = refl;
           compared = refl;
           after = subst (λ cs. Sh s (model cs (m .orders) (m .figs))
-              → Sh (op .setRest (takeChunk op s (x - 6) (lengthAt op s x) z)
-              (counted (op .rest s) (portion (lengthAt op s x) z) (byteOf x + portion (lengthAt op s x) z)))
+              → Sh (emptied op (op .setRest (takeChunk op s (x - 6) (lengthAt op s x) z)
+              (counted (op .rest s) (portion (lengthAt op s x) z) (byteOf x + portion (lengthAt op s x) z))) (x - 6) (portion (lengthAt op s x) z))
               (tookM (model cs (m .orders) (m .figs)) x (lenAt cs (byteOf x)) z))
-              (sym (g .is)) (λ q. took s (g .pre) (r .0) (g .post) (m .orders) (m .figs) x z z16 z8 (g .named) q) h;
+              (sym (g .is)) (λ q. took-emptied s (g .pre) (r .0) (g .post) (m .orders) (m .figs) x z z16 z8 (g .named) q) h;
         }
     lists-follow z z16 z8 lost f = absurd f
 
@@ -452,8 +500,13 @@ module _ {S : Type 0} {op : Ops S Figures} {most places : ℕ} (E : Edition op m
           value = refl;
           compared = refl;
           after =
-              recached s m h ks (let q = p .4 in let v = h .cache .room in
-              record { used = λ y i. h .cache .used y (p .2 y i); once = p .3 (h .cache .once); room = omega arith });
+              let u = h .cache .used x (p .1) in
+              let up = u .1 in
+              let y = used-size s m h x (u .0) (u .1) in
+              emptied-shows _ _
+              (recached s m h ks (let q = p .4 in let v = h .cache .room in
+              record { used = λ y i. h .cache .used y (p .2 y i); once = p .3 (h .cache .once) .1; room = omega arith }))
+              x (lengthAt op s x) (u .0) (sym y) (omega arith);
         }
         go none p =
             rw (search-same s m h sound z) (lists-follow z z16 z8 (searchM m z) (find-fits (sizeM m) z (searched m z) 0))

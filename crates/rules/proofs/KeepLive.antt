@@ -1,6 +1,6 @@
 -- No call changes a word of a payload live before and after it. Assumes nothing.
 use mathlib.Core.Path.{_≡_, refl, sym, ap, subst}
-use mathlib.Core.Logic.{inl, inr}
+use mathlib.Core.Logic.{_≢_, _⊎_, inl, inr}
 use mathlib.Core.Bool.{true, false}
 use mathlib.Core.List.{List, [], _∷_, _++_, append-assoc}
 use Prim.Native.Nat.{ℕ, _+_, _-_, _/_, _<_}
@@ -28,22 +28,38 @@ tl : List Chunk → List Chunk
 tl [] = []
 tl (c ∷ cs) = cs
 
--- a payload is not in a free chunk
-pay-out : (b : ℕ) (X : List Chunk) (m : ℕ) (Y P : List Chunk) (k : ℕ) (Q : List Chunk) (i : ℕ) → X ++ free m ∷ Y ≡ P ++ busy k ∷ Q → (b + total P) / 4 < i
-    → i < (b + total P + k) / 4
-    → Out ((b + total X) / 4) ((b + total X + m) / 4) i
+-- two chunks of one layout: they are the same one, or a word inside the second is outside the first
+two-out : (b : ℕ) (X : List Chunk) (c : Chunk) (Y P : List Chunk) (d : Chunk) (Q : List Chunk) (i : ℕ) → X ++ c ∷ Y ≡ P ++ d ∷ Q → (b + total P) / 4 < i
+    → i < (b + total P + d .len) / 4
+    → ((c ≡ d) × (total X ≡ total P)) ⊎ Out ((b + total X) / 4) ((b + total X + c .len) / 4) i
 unfolding hd tl
-pay-out b [] m Y [] k Q i e lo hi =
-    absurd (let q : free m ≡ busy k = ap (hd (free m)) e in let u : false ≡ true = ap (λ (c : Chunk). c .used) q in let z : _≡_ {A = ℕ} 0 1 = cc in omega arith)
-pay-out b [] m Y (c ∷ P) k Q i e lo hi = let q : m ≡ c .len = ap (λ (t : List Chunk). (hd (free m) t) .len) e in inr (omega arith)
-pay-out b (c ∷ X) m Y [] k Q i e lo hi = let q : c .len ≡ k = ap (λ (t : List Chunk). (hd c t) .len) e in inl (omega arith)
-pay-out b (c ∷ X) m Y (d ∷ P) k Q i e lo hi =
-    let q : c .len ≡ d .len = ap (λ (t : List Chunk). (hd c t) .len) e in
-    let x : b + c .len + total X ≡ b + (c .len + total X) = omega arith in
-    rw x at (pay-out (b + c .len) X m Y P k Q i (ap tl e) (omega arith) (omega arith))
+two-out b [] c Y [] d Q i e lo hi = inl (ap (hd c) e, refl)
+two-out b [] c Y (p ∷ P) d Q i e lo hi = let q : c .len ≡ p .len = ap (λ (t : List Chunk). (hd c t) .len) e in inr (inr (omega arith))
+two-out b (x ∷ X) c Y [] d Q i e lo hi = let q : x .len ≡ d .len = ap (λ (t : List Chunk). (hd x t) .len) e in inr (inl (omega arith))
+two-out b (x ∷ X) c Y (p ∷ P) d Q i e lo hi =
+    let q : x .len ≡ p .len = ap (λ (t : List Chunk). (hd x t) .len) e in
+    go q (two-out (b + x .len) X c Y P d Q i (ap tl e) (omega arith) (omega arith))
+  where
+    go : x .len ≡ p .len → ((c ≡ d) × (total X ≡ total P)) ⊎ Out ((b + x .len + total X) / 4) ((b + x .len + total X + c .len) / 4) i
+        → ((c ≡ d) × (x .len + total X ≡ p .len + total P)) ⊎ Out ((b + (x .len + total X)) / 4) ((b + (x .len + total X) + c .len) / 4) i
+    go q (inl r) = let y = r .1 in inl (r .0, omega arith)
+    go q (inr o) = let y : b + x .len + total X ≡ b + (x .len + total X) = omega arith in inr (rw y at o)
 
+-- a payload is not in a free chunk
 pub payload-out : (X : List Chunk) (m : ℕ) (Y : List Chunk) (i : ℕ) → Payload (X ++ free m ∷ Y) i → Out ((0 + total X) / 4) ((0 + total X + m) / 4) i
-payload-out X m Y i p = pay-out 0 X m Y (p .pre) (p .size) (p .post) i (p .is) (p .low) (p .high)
+payload-out X m Y i p = go (two-out 0 X (free m) Y (p .pre) (busy (p .size)) (p .post) i (p .is) (p .low) (p .high))
+  where
+    go : ((free m ≡ busy (p .size)) × (total X ≡ total (p .pre))) ⊎ Out ((0 + total X) / 4) ((0 + total X + m) / 4) i → Out ((0 + total X) / 4) ((0 + total X + m) / 4) i
+    go (inl r) = absurd (let u : false ≡ true = ap (λ (c : Chunk). c .used) (r .0) in let z : _≡_ {A = ℕ} 0 1 = cc in omega arith)
+    go (inr o) = o
+
+-- nor in another used one
+pub payload-other : (X : List Chunk) (m : ℕ) (Y : List Chunk) (i : ℕ) (p : Payload (X ++ busy m ∷ Y) i) → total X ≢ total (p .pre) → Out ((0 + total X) / 4) ((0 + total X + m) / 4) i
+payload-other X m Y i p n = go (two-out 0 X (busy m) Y (p .pre) (busy (p .size)) (p .post) i (p .is) (p .low) (p .high))
+  where
+    go : ((busy m ≡ busy (p .size)) × (total X ≡ total (p .pre))) ⊎ Out ((0 + total X) / 4) ((0 + total X + m) / 4) i → Out ((0 + total X) / 4) ((0 + total X + m) / 4) i
+    go (inl r) = absurd (n (r .1))
+    go (inr o) = o
 
 module _ {S R : Type 0} {op : Ops S R} (L : LinkStore op) (cls : ℕ → ℕ) (cls6 : (n : ℕ) → cls n < 6) where
   pub payload-off : (cs : List Chunk) (i : ℕ) → Legal cs → Payload cs i → Off i (frees 0 cs)

@@ -13,8 +13,9 @@ use borrow.Author.Tests.{ne-eqb, le-leb, lt-leb, eqb-true, eqb-false, leb-true, 
 use Rattle.words.specs.Choice.{pick}
 use Rattle.rules.specs.Chunks.{Chunk, free, busy, total, Legal, join, release, taken, cut, either, usedSum}
 use Rattle.rules.proofs.Chunks.{release-legal}
+use Rattle.rules.specs.Steps.{portion}
 use Rattle.rules.specs.Place.{usedAt, lenAt}
-use Rattle.rules.proofs.Place.{used-at, len-at}
+use Rattle.rules.proofs.Place.{used-at, len-at, used-skip}
 use Rattle.rules.proofs.Sums.{release-sum, taken-sum}
 use Rattle.rules.proofs.Part.{legal-front}
 use Rattle.rules.specs.Sound.{Under}
@@ -130,6 +131,25 @@ taken-used (c ∷ pre) n post z b l z16 h =
     let p : 16 ≤ c .len = l .0 in
     deeper c (taken (pre ++ free n ∷ post) (length pre) z) (pre ++ free n ∷ post) b (omega arith)
     (λ q. taken-used pre n post z (b - c .len) (l .2) z16 (λ y. h (past c (pre ++ free n ∷ post) b (omega arith) q ∙ y)))
+
+-- the chunk taken is used, its length the portion; where a free chunk stands there is no used one
+pub taken-there : (pre : List Chunk) (n : ℕ) (post : List Chunk) (z : ℕ) → Legal pre → usedAt (taken (pre ++ free n ∷ post) (length pre) z) (total pre) ≡ portion n z
+unfolding taken cut
+taken-there [] n post z l = go (leb (z + 12) n)
+  where
+    go : (t : Bool) → usedAt (pick t (busy z ∷ free (n - z) ∷ post) (busy n ∷ post)) 0 ≡ pick t z n
+    go true = here (busy z) (free (n - z) ∷ post)
+    go false = here (busy n) post
+taken-there (c ∷ pre) n post z l =
+    let p : 16 ≤ c .len = l .0 in
+    let e : c .len + total pre - c .len ≡ total pre = omega arith in
+    past c (taken (pre ++ free n ∷ post) (length pre) z) (c .len + total pre) (omega arith) (omega arith)
+    ∙ ap (usedAt (taken (pre ++ free n ∷ post) (length pre) z)) e ∙ taken-there pre n post z (l .2)
+
+pub free-there : (pre : List Chunk) (n : ℕ) (post : List Chunk) → Legal pre → usedAt (pre ++ free n ∷ post) (total pre) ≡ 0
+free-there pre n post l =
+    let e : total pre - total pre ≡ 0 = omega arith in
+    used-skip pre (free n ∷ post) (total pre) l (omega arith) ∙ ap (usedAt (free n ∷ post)) e ∙ here-free n post
 
 -- the length of a used chunk, as of any
 pub used-len : (cs : List Chunk) (b : ℕ) → Legal cs → 0 < usedAt cs b → lenAt cs b ≡ usedAt cs b

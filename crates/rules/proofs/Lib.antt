@@ -14,6 +14,7 @@ pub mod Steps
 pub mod Calls
 pub mod Release
 pub mod Live
+pub mod Emptying
 pub mod Take
 pub mod Search
 pub mod Place
@@ -30,7 +31,8 @@ pub mod Editions
 pub mod Exactly
 pub mod Cases
 pub mod Demands
-pub mod Runs
 pub mod Bounds
+pub mod Runs
+pub mod Arrival
 pub mod Proved
 pub mod Examples

@@ -25,7 +25,7 @@ pub record Payload (cs : List Chunk) (i : ℕ) : Type 0 where
   pub high : i < (0 + total pre + size) / 4
 
 module _ {S R : Type 0} {op : Ops S R} (L : LinkStore op) (cls : ℕ → ℕ) (cls6 : (n : ℕ) → cls n < 6) (s : S) (O : ℕ → List ℕ) where
-  write-at : (pre : List Chunk) (n : ℕ) (post : List Chunk) (i v : ℕ) → (0 + total pre) / 4 < i → i < (0 + total pre + n) / 4
+  pub write-at : (pre : List Chunk) (n : ℕ) (post : List Chunk) (i v : ℕ) → (0 + total pre) / 4 < i → i < (0 + total pre + n) / 4
       → Whole L cls cls6 s O (pre ++ busy n ∷ post) → Whole L cls cls6 (op .setWord s i v) O (pre ++ busy n ∷ post)
   unfolding frees
   write-at pre n post i v h k w =

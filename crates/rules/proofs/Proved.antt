@@ -24,6 +24,7 @@ use Rattle.rules.proofs.Demands.{hand-numbers, back-numbers, hand-refus
 use Rattle.rules.proofs.Demands.{back-sound, hand-fine, back-fine, hand-damaged, back-damaged, noFit-exact, notLive-exact, position, compared-small}
 use Rattle.rules.proofs.Demands.{compared-small-refused, compared-large-refused}
 use Rattle.rules.proofs.Runs.{runs-agree, run-follows, payload-kept}
+use Rattle.rules.proofs.Arrival.{arrives-empty, alike-at-handout}
 
 pub demands : {S : Type 0} {op : Ops S Figures} {most places : ℕ} → Edition op most places → Demands op most places
 demands {op = op} {most = most} {places = places} E = record {
@@ -45,6 +46,8 @@ demands {op = op} {most = most} {places = places} E = record {
   compared = λ s m h size. (compared-small E s m h size, compared-small-refused E s m h size, compared-large-refused E s m h size);
   runs = λ es fs s t m e h g a b. let r = runs-agree E es fs s t m e h g a b in (run-follows E es s m h a .0, r .0, r .1);
   payload = payload-kept E;
+  empty = arrives-empty E;
+  alike = alike-at-handout E;
 }
 
 -- BOTH WIDTHS

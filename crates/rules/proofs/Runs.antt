@@ -13,15 +13,16 @@ use Rattle.words.specs.Choice.{pick}
 use Rattle.rules.specs.Lists.{Mem}
 use Rattle.rules.proofs.Seg.{seg-agree}
 use Rattle.rules.specs.Ops.{Ops}
-use Rattle.rules.specs.Steps.{lengthAt, takeChunk, releaseChunk, oneChunk}
+use Rattle.rules.specs.Steps.{portion, lengthAt, takeChunk, emptied, releaseChunk, oneChunk}
 use Rattle.rules.proofs.Bytes.{releaseStep, take-words, release-words}
 use Rattle.rules.specs.Chunks.{Chunk, free, busy, total, Calm, release}
 use Rattle.rules.specs.Exact.{slot}
 use Rattle.rules.proofs.Tags.{tags-agree, calm-left}
 use Rattle.rules.proofs.Part.{legal-front, legal-back}
 use Rattle.rules.proofs.Calls.{Whole}
-use Rattle.rules.proofs.Keep.{take-keeps, release-keeps}
-use Rattle.rules.proofs.KeepLive.{payload-off, payload-out, shape, shape-out}
+use Rattle.rules.proofs.Emptying.{emptied-out}
+use Rattle.rules.proofs.Keep.{Out, take-keeps, release-keeps}
+use Rattle.rules.proofs.KeepLive.{payload-off, payload-out, payload-other, shape, shape-out}
 use Rattle.rules.proofs.Live.{Payload, live-write}
 use Rattle.rules.specs.Search.{Found, at, nowhere, lost}
 use Rattle.rules.proofs.Search.{find-fits, Fits}
@@ -42,6 +43,8 @@ use Rattle.rules.specs.Machine.{Model, Request, ask, give, callM, sizeM,
 use Rattle.rules.specs.Sound.{Accepted, Shows}
 use Rattle.rules.proofs.Store.{Edition}
 use Rattle.rules.proofs.Follow.{Follows, shown, whole, L, search-same, met-free, used-size, left-there, live-same, live-is, r16, r8}
+use Rattle.rules.proofs.Follow.{Picked, choose-picked, choose-cached, portion-least, portion-le}
+use Rattle.rules.proofs.Bounds.{cached-fits}
 use Rattle.rules.proofs.Decide.{true-sound, layout-unique}
 use Rattle.rules.specs.Test.{soundᵇ}
 use Rattle.rules.specs.Demands.{hand, back}
@@ -106,23 +109,52 @@ module _ {S : Type 0} {op : Ops S Figures} {most places : ℕ} (E : Edition op m
 
   -- ---- PAYLOADS
 
+  -- what is outside a part is outside its emptied payload
+  past-emptied : (lo hi i w k : ℕ) → w ≡ lo → w + k / 4 ≤ hi → Out lo hi i → (i ≤ w) ⊎ (w + k / 4 ≤ i)
+  past-emptied lo hi i w k e h (inl o) = inl (omega arith)
+  past-emptied lo hi i w k e h (inr o) = inr (omega arith)
+
   took-keeps : (s : S) (pre : List Chunk) (n : ℕ) (post : List Chunk) (O : ℕ → List ℕ) (f : Figures) (x z i : ℕ) (r : Figures) → 16 ≤ z → z % 8 ≡ 0
       → x ≡ (0 + total pre) / 4 + 6
       → Sh s (record { cs = pre ++ free n ∷ post; orders = O; figs = f }) → Payload (pre ++ free n ∷ post) i
-      → op .word (op .setRest (takeChunk op s (x - 6) (lengthAt op s x) z) r) i ≡ op .word s i
+      → op .word (emptied op (op .setRest (takeChunk op s (x - 6) (lengthAt op s x) z) r) (x - 6) (portion (lengthAt op s x) z)) i ≡ op .word s i
   took-keeps s pre n post O f x z i r z16 z8 e h p =
       let m : Model = record { cs = pre ++ free n ∷ post; orders = O; figs = f } in
       let w = whole E s m h in
       let lp = legal-front pre (free n ∷ post) (h .legal) in
-      L E s m h .word-setRest (takeChunk op s (x - 6) (lengthAt op s x) z) r i
+      let n16 : 16 ≤ n = (legal-back pre (free n ∷ post) (h .legal)) .0 in
+      let y : lengthAt op s x ≡ n = size-at (L E s m h) classOf class-below s O pre n post x e w in
+      let k = portion-least 16 (lengthAt op s x) z (omega arith) z16 in
+      let j = portion-le (lengthAt op s x) z in
+      emptied-out (L E s m h) (op .setRest (takeChunk op s (x - 6) (lengthAt op s x) z) r) (x - 6) (portion (lengthAt op s x) z) i (omega arith)
+      (past-emptied ((0 + total pre) / 4) ((0 + total pre + n) / 4) i (x - 6) (portion (lengthAt op s x) z) (omega arith) (omega arith) (payload-out pre n post i p))
+      ∙ L E s m h .word-setRest (takeChunk op s (x - 6) (lengthAt op s x) z) r i
       ∙ rw (take-words op s (x - 6) (lengthAt op s x) z (omega arith), size-at (L E s m h) classOf class-below s O pre n post x e w, byte-at pre x lp e)
       (take-keeps (L E s m h) classOf class-below pre post (calm-left pre n post (h .calm)) s O n z i z16 z8 w
       (payload-off (L E s m h) classOf class-below (pre ++ free n ∷ post) i (h .legal) p) (payload-out pre n post i p))
 
   module _ (s : S) (m : Model) (h : Sh s m) (i : ℕ) where
-    hand-keeps : (size : ℕ) → Payload (m .cs) i → op .word (hand op most places s size .after) i ≡ op .word s i
+    -- a cached chunk's payload holds no word of a live one
+    cached-out : (l : LiveWord m i) (x : ℕ) → Mem x (m .figs .cached) → (i ≤ x - 6) ⊎ (x - 6 + lengthAt op s x / 4 ≤ i)
+    cached-out l x q =
+        let v = h .cache .used x q in
+        let v0 = v .0 in
+        let v1 = v .1 in
+        let n = usedAt (m .cs) (byteOf x) in
+        let u = used-at (m .cs) (byteOf x) (omega arith) in
+        let b : (x - 6) * 4 ≡ total (u .pre) = u .byte in
+        let y = used-size E s m h x (v .0) (v .1) in
+        let lo = l .low in
+        let hi = l .high in
+        let p : Payload (u .pre ++ busy n ∷ u .post) i =
+        record { pre = l .pre; size = l .size; post = l .post; is = sym (u .is) ∙ l .is; low = omega arith; high = omega arith } in
+        past-emptied ((0 + total (u .pre)) / 4) ((0 + total (u .pre) + n) / 4) i (x - 6) (lengthAt op s x) (omega arith) (omega arith)
+        (payload-other (u .pre) n (u .post) i p
+        (λ e. l .cold (subst (λ (t : ℕ). Mem t (m .figs .cached)) (let r : x ≡ nameOf (total (l .pre)) = omega arith in r) q)))
+
+    hand-keeps : (size : ℕ) → LiveWord m i → op .word (hand op most places s size .after) i ≡ op .word s i
     unfolding handOut serve fromCache fromList
-    hand-keeps size p = rw (true-sound E s (m, h)) (go (eqb size 0) (ltb 4294967284 size))
+    hand-keeps size l = rw (true-sound E s (m, h)) (go (eqb size 0) (ltb 4294967284 size))
       where
         list : (r : Found) → Fits (sizeM m) (roundedOf size) (searched m (roundedOf size)) r
             → op .word (fromList op places (soundᵇ op most places) s (roundedOf size) r .after) i ≡ op .word s i
@@ -132,11 +164,15 @@ module _ {S : Type 0} {op : Ops S Figures} {most places : ℕ} (E : Edition op m
             let r = met-free E s m h (roundedOf size) x (f .0) in
             let g = free-at 0 (m .cs) (slot x (r .0)) (r .1) in
             took-keeps s (g .pre) (r .0) (g .post) (m .orders) (m .figs) x (roundedOf size) i _ (r16 size) (r8 size) (g .named)
-            (subst (λ cs. Sh s (record { cs = cs; orders = m .orders; figs = m .figs })) (g .is) h) (subst (λ cs. Payload cs i) (g .is) p)
+            (subst (λ cs. Sh s (record { cs = cs; orders = m .orders; figs = m .figs })) (g .is) h) (subst (λ cs. Payload cs i) (g .is) (payload m i l))
 
-        served : (c : Chosen) → op .word (fromCache op places (soundᵇ op most places) s (roundedOf size) c .after) i ≡ op .word s i
-        served (one x ks) = L E s m h .word-setRest s (withCached (op .rest s) ks) i
-        served none =
+        served : (c : Chosen) → Picked (sizeM m) (roundedOf size) (m .figs .cached) c → op .word (fromCache op places (soundᵇ op most places) s (roundedOf size) c .after) i ≡ op .word s i
+        served (one x ks) p =
+            let c = cached-fits E s m h x (subst (λ (f : Figures). Mem x (f .cached)) (sym (h .figs)) (p .1)) in
+            let n16 = c .least in
+            emptied-out (L E s m h) (op .setRest s (withCached (op .rest s) ks)) (x - 6) (lengthAt op s x) i (omega arith) (cached-out l x (p .1))
+            ∙ L E s m h .word-setRest s (withCached (op .rest s) ks) i
+        served none p =
             rw (search-same E s m h (soundᵇ op most places) (roundedOf size))
             (list (searchM m (roundedOf size)) (find-fits (sizeM m) (roundedOf size) (searched m (roundedOf size)) 0))
 
@@ -145,7 +181,9 @@ module _ {S : Type 0} {op : Ops S Figures} {most places : ℕ} (E : Edition op m
             (choose (lengthAt op s) (roundedOf size) (op .rest s .cached))))) .after) i ≡ op .word s i
         go true b = refl
         go false true = refl
-        go false false = served (choose (lengthAt op s) (roundedOf size) (op .rest s .cached))
+        go false false =
+            rw (choose-cached E s m h (roundedOf size))
+            (served (choose (sizeM m) (roundedOf size) (m .figs .cached)) (choose-picked (sizeM m) (roundedOf size) (m .figs .cached)))
 
     gave-keeps : (k : ℕ) (ks : List ℕ) (r : Figures) → 6 ≤ k → 0 < usedAt (m .cs) (byteOf k) → Payload (m .cs) i → Payload (gaveM m ks (byteOf k) (sizeM m k) .cs) i
         → op .word (op .setRest (releaseChunk op s (k - 6) (lengthAt op s k)) r) i ≡ op .word s i
@@ -204,7 +242,7 @@ module _ {S : Type 0} {op : Ops S Figures} {most places : ℕ} (E : Edition op m
   pub payload-kept : (q : Request) (s : S) (i : ℕ) → Live op most places s i → Live op most places (call op most places q s .after) i
       → op .word (call op most places q s .after) i ≡ op .word s i
   unfolding call callM
-  payload-kept (ask n) s i l l′ = hand-keeps s (l .shows) (l .abs) i n (payload (l .shows) i (l .word))
+  payload-kept (ask n) s i l l′ = hand-keeps s (l .shows) (l .abs) i n (l .word)
   payload-kept (give p) s i l l′ =
       back-keeps s (l .shows) (l .abs) i p (payload (l .shows) i (l .word))
       (payload-of (back op most places s p .after) (takeBackM places (l .shows) p .after) i (back-follows E s (l .shows) (l .abs) p .after) l′)

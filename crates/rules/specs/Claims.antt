@@ -15,7 +15,7 @@ use Rattle.rules.specs.Making.{make, empty}
 use Rattle.rules.specs.Machine.{Model, Request, madeM}
 use Rattle.rules.specs.Sound.{Accepted, Shows, Sound}
 use Rattle.rules.specs.Test.{soundᵇ}
-use Rattle.rules.specs.Demands.{NoFit, FromCache, FromList, LiveAt, hand, back}
+use Rattle.rules.specs.Demands.{NoFit, FromCache, FromList, LiveAt, InPayload, hand, back}
 use Rattle.rules.specs.TwoRuns.{Event, requests, run, answers, Allowed, replies}
 use Rattle.rules.specs.Runs.{machine, acts, call, Live, Same}
 
@@ -109,6 +109,18 @@ module _ {S : Type 0} (op : Ops S Figures) (most places : ℕ) where
       (q : Request) (s : S) (i : ℕ) → Live op most places s i → Live op most places (call op most places q s .after) i
       → op .word (call op most places q s .after) i ≡ op .word s i
 
+  -- payloads arrive empty: what is handed out is a live payload, and every word of it is 0
+  abbrev pub ArrivesEmpty : Type 0
+  ArrivesEmpty =
+      (s : S) (m : Model) (size : ℕ) → asked s size .number ≡ 0 → Shows op most places (asked s size .after) m
+      → LiveAt m (asked s size .value) × ((i : ℕ) → InPayload m (asked s size .value) i → op .word (asked s size .after) i ≡ 0)
+
+  -- so at the moment of handout its words are equal in two heaps that showed one model
+  abbrev pub AlikeAtHandout : Type 0
+  AlikeAtHandout =
+      (s t : S) (m n : Model) (size : ℕ) → Shows op most places s m → Shows op most places t m → asked s size .number ≡ 0 → Shows op most places (asked s size .after) n
+      → (i : ℕ) → InPayload n (asked s size .value) i → op .word (asked s size .after) i ≡ op .word (asked t size .after) i
+
   pub record Demands : Type 0 where
     pub numbers : Answers
     pub refused : RefusedUnchanged
@@ -125,6 +137,8 @@ module _ {S : Type 0} (op : Ops S Figures) (most places : ℕ) where
     pub compared : Compared
     pub runs : TwoRunsAgree
     pub payload : PayloadKept
+    pub empty : ArrivesEmpty
+    pub alike : AlikeAtHandout
 
 -- MAKING: 0 exactly for accepted lengths, and then one model for all memories of that length; else 6, the empty record, the words as they were
 abbrev pub MakingSound : Width → ℕ → ℕ → Type 0

@@ -2,7 +2,7 @@
 use mathlib.Core.Path.{_≡_}
 use mathlib.Core.Bool.{true, false}
 use mathlib.Core.List.{List, _∷_, _++_}
-use Prim.Native.Nat.{ℕ, _+_, _≤_, _<_}
+use Prim.Native.Nat.{ℕ, _+_, _/_, _≤_, _<_}
 use lib.ListN.{length}
 use Rattle.words.specs.Sizes.{thresholdOf}
 use Rattle.rules.specs.Lists.{Mem}
@@ -44,6 +44,16 @@ pub record LiveAt (m : Model) (p : ℕ) : Type 0 where
   pub is : m .cs ≡ pre ++ busy size ∷ post
   pub begins : p ≡ total pre + 4
   pub cold : Mem (nameOf (total pre)) (m .figs .cached) → ⊥
+
+-- word i lies in the payload at p: from the word after the header of a used chunk to that chunk's end
+pub record InPayload (m : Model) (p i : ℕ) : Type 0 where
+  pub pre : List Chunk
+  pub size : ℕ
+  pub post : List Chunk
+  pub is : m .cs ≡ pre ++ busy size ∷ post
+  pub begins : p ≡ total pre + 4
+  pub low : total pre / 4 < i
+  pub high : i < (total pre + size) / 4
 
 module _ {S : Type 0} (op : Ops S Figures) (most places : ℕ) where
   -- THE CALLS

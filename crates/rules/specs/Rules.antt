@@ -8,7 +8,7 @@ use lib.ListN.{length}
 use Rattle.words.specs.Choice.{pick}
 use Rattle.words.specs.Sizes.{roundedOf, startOf}
 use Rattle.rules.specs.Ops.{Ops}
-use Rattle.rules.specs.Steps.{portion, lengthAt, takeChunk, releaseChunk}
+use Rattle.rules.specs.Steps.{portion, lengthAt, takeChunk, emptied, releaseChunk}
 use Rattle.rules.specs.Search.{Found, at, nowhere, lost, findWalk, searchAll}
 use Rattle.rules.specs.Place.{usedWalk}
 
@@ -88,17 +88,18 @@ module _ {S : Type 0} (op : Ops S Figures) (places : ℕ) (sound : S → Bool) w
   unfoldable pub firstFit : S → ℕ → Found
   firstFit s z = searchAll (λ j c. findWalk (op .next s) (lengthAt op s) z j (op .count s / 4 - c) (op .next s j) c) (6 - startOf z) (startOf z) 0
 
-  -- 3 and 4. the chunk found is unlinked, cut and marked used; the figures follow. Or no fit
+  -- 3 and 4. the chunk found is unlinked, cut and marked used; the figures follow; its payload, as finally cut, is set to 0. Or no fit
   unfoldable pub fromList : S → ℕ → Found → Outcome S
   fromList s z (at x c) =
       let n = lengthAt op s x in
-      says 0 (byteOf x + 4) c (op .setRest (takeChunk op s (x - 6) n z) (counted (op .rest s) (portion n z) (byteOf x + portion n z)))
+      let out = op .setRest (takeChunk op s (x - 6) n z) (counted (op .rest s) (portion n z) (byteOf x + portion n z)) in
+      says 0 (byteOf x + 4) c (emptied op out (x - 6) (portion n z))
   fromList s z (nowhere c) = says 3 0 c s
   fromList s z lost = says 5 0 0 s
 
-  -- 1. a cached chunk that serves is handed out whole; the counters stay
+  -- 1. a cached chunk that serves is handed out whole, its payload set to 0; the counters stay
   unfoldable pub fromCache : S → ℕ → Chosen → Outcome S
-  fromCache s z (one x ks) = says 0 (byteOf x + 4) 0 (op .setRest s (withCached (op .rest s) ks))
+  fromCache s z (one x ks) = says 0 (byteOf x + 4) 0 (emptied op (op .setRest s (withCached (op .rest s) ks)) (x - 6) (lengthAt op s x))
   fromCache s z none = fromList s z (firstFit s z)
 
   -- a rounded size served, on a sound state

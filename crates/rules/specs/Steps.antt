@@ -1,7 +1,7 @@
 -- THE STEPS of document 01's "Making, handing out, taking back", as functions that compute: what each stores, on any words, sound or not. Each step first
 -- unlinks, then writes tags, and lists last. `w` is the word of a header, `n` a length in bytes.
 use mathlib.Core.Bool.{Bool, true, false}
-use Prim.Native.Nat.{ℕ, _+_, _-_, _/_}
+use Prim.Native.Nat.{ℕ, zero, suc, _+_, _-_, _/_}
 use lib.Dec.{leb, ltb}
 use Rattle.words.specs.Choice.{pick}
 use Rattle.words.specs.Tags.{headerOf, lengthOf, freeᵇ, leftFreeᵇ, leftUsed, leftFreed, rightOf, footerOf}
@@ -51,6 +51,15 @@ module _ {S R : Type 0} (op : Ops S R) where
   -- TAKING the listed chunk of n bytes for z: unlinked, marked used, the excess returned
   unfoldable pub takeChunk : S → ℕ → ℕ → ℕ → S
   takeChunk s w n z = returnExcess (markUsed (unlink s (w + 6)) w (portion n z)) w n z
+
+  -- k words from word i on set to 0
+  unfoldable pub cleared : S → ℕ → ℕ → S
+  cleared s i zero = s
+  cleared s i (suc k) = cleared (op .setWord s i 0) (suc i) k
+
+  -- EMPTYING the payload of the chunk of n bytes at word w: every word after its header, up to its end
+  unfoldable pub emptied : S → ℕ → ℕ → S
+  emptied s w n = cleared s (suc w) (n / 4 - 1)
 
   -- the free bytes just left of word w, and from word e on, as the tags say; 0 where the neighbour is used
   unfoldable pub leftFree : S → ℕ → ℕ

@@ -1,4 +1,4 @@
--- `heap::record::Record::serve` meets its contract: the cached chunk whole, else what the lists give.
+-- `heap::record::Record::serve` meets its contract: the cached chunk whole, its payload emptied, else what the lists give.
 use borrow.Author.Needs.{needs}
 use native.Mathlib.Omega.{arith}
 use Prim.Native.Nat.{_<_}
@@ -12,6 +12,12 @@ cache-serves-requires c κs = search needs
 link-to-hdr-requires : tie.Need-link-to-hdr-requires
 link-to-hdr-requires c κs = search needs
 
+get-hdr-chunk-size-requires : tie.Need-get-hdr-chunk-size-requires
+get-hdr-chunk-size-requires c κs = search needs
+
+clear-payload-requires : tie.Need-clear-payload-requires
+clear-payload-requires c κs = search needs
+
 hdr-to-payload-requires : tie.Need-hdr-to-payload-requires
 hdr-to-payload-requires c κs = search needs
 
@@ -23,8 +29,9 @@ same-length c = search needs
 
 returns : tie.Need-returns
 returns c =
-    let below : c .before .before .before .before .before .before .before .args .self .cached .0 < 65536 = omega (arith, c .before .before .before .before .before .before .before .good) in
-    served-cached (c .before .before .before .before .before .before .before .args .self) (c .before .before .before .before .before .before .before .args .heap .now) (c .before .before .before .before .before .before .before .args .z) (c .with-cached .result) _ _ _ below (c .before .before .before .before .cache-serves .ensures) (c .before .before .before .if1 .taken) (c .before .before .link-to-hdr .ensures) (c .before .hdr-to-payload .ensures) (c .with-cached .ensures)
+    let below : c .before .before .before .before .before .before .before .before .before .before .before .before .before .args .self .cached .0 < 65536 = omega (arith, c .before .before .before .before .before .before .before .before .before .before .before .before .before .good) in
+    served-cached (c .before .before .before .before .before .before .before .before .before .before .before .before .before .args .self) (c .before .before .before .before .before .before .before .before .before .before .before .before .before .args .heap .now) (c .before .before .before .before .before .before .before .before .before .before .before .before .before .args .z) (c .with-cached .result) _ _ _ _ _ below (c .before .before .before .before .before .before .before .before .before .before .cache-serves .ensures) (c .before .before .before .before .before .before .before .before .before .if1 .taken) (c .before .before .before .before .before .before .before .before .link-to-hdr .ensures)
+    (c .before .before .before .before .before .before .get-hdr-chunk-size .ensures) (c .before .before .before .before .clear-payload .ensures) (c .before .hdr-to-payload .ensures) (c .with-cached .ensures)
 
 serve-listed-requires : tie.Need-serve-listed-requires
 serve-listed-requires c κs = search needs
@@ -41,6 +48,8 @@ serve-spec =
     (tie.spec
     cache-serves-requires
     link-to-hdr-requires
+    get-hdr-chunk-size-requires
+    clear-payload-requires
     hdr-to-payload-requires
     with-cached-requires
     same-length

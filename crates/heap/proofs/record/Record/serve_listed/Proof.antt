@@ -1,4 +1,4 @@
--- `heap::record::Record::serve_listed` meets its contract: a law for each answer of the search; soundness keeps the counts and sums in range (`take-safe`).
+-- `heap::record::Record::serve_listed` meets its contract: a law for each answer of the search, the payload of what it finds emptied; soundness keeps the counts and sums in range (`take-safe`).
 use borrow.Author.Needs.{needs}
 use mathlib.Core.Path.{refl, sym, ap, _∙_}
 use native.Mathlib.Omega.{arith}
@@ -41,6 +41,9 @@ take-chunk-requires c κs =
     let safe = take-safe (c .before .before .before .before .before .before .before .before .before .before .before .before .args .self) (c .before .before .before .before .before .before .before .before .before .before .before .before .args .heap .now) (c .before .before .before .before .before .before .before .before .before .before .before .before .args .z) (c .before .before .before .before .before .before .before .before .before .before .before .before .pre) _ _ _ _ (sym (ap (λ (q : Found). told q) (c .before .before .before .before .before .before .found2 .given .1)) ∙ c .before .before .before .before .before .before .before .before .search-first-fit .ensures ∙ sym (first-fit-is soundAt (c .before .before .before .before .before .before .before .before .before .before .before .before .args .self) (c .before .before .before .before .before .before .before .before .before .before .before .before .args .heap .now) (c .before .before .before .before .before .before .before .before .before .before .before .before .args .z))) (c .before .before .before .before .link-to-hdr .ensures) (c .before .before .get-hdr-chunk-size .ensures) in
     (safe .0, safe .1)
 
+clear-payload-requires : tie.Need-clear-payload-requires
+clear-payload-requires c κs = search needs
+
 hdr-to-right-hdr-requires : tie.Need-hdr-to-right-hdr-requires
 hdr-to-right-hdr-requires c κs = search needs
 
@@ -49,17 +52,17 @@ hdr-to-offset-requires c κs = search needs
 
 count-in-requires : tie.Need-count-in-requires
 count-in-requires c κs =
-    let safe = take-safe (c .before .before .before .before .before .before .before .before .before .before .before .before .before .before .before .before .before .args .self) (c .before .before .before .before .before .before .before .before .before .before .before .before .before .before .before .before .before .args .heap .now) (c .before .before .before .before .before .before .before .before .before .before .before .before .before .before .before .before .before .args .z) (c .before .before .before .before .before .before .before .before .before .before .before .before .before .before .before .before .before .pre) _ _ _ _ (sym (ap (λ (q : Found). told q) (c .before .before .before .before .before .before .before .before .before .before .before .found2 .given .1)) ∙ c .before .before .before .before .before .before .before .before .before .before .before .before .before .search-first-fit .ensures ∙ sym (first-fit-is soundAt (c .before .before .before .before .before .before .before .before .before .before .before .before .before .before .before .before .before .args .self) (c .before .before .before .before .before .before .before .before .before .before .before .before .before .before .before .before .before .args .heap .now) (c .before .before .before .before .before .before .before .before .before .before .before .before .before .before .before .before .before .args .z))) (c .before .before .before .before .before .before .before .before .before .link-to-hdr .ensures) (c .before .before .before .before .before .before .before .get-hdr-chunk-size .ensures) in
-    let part = portion-room (c .before .before .before .before .before .before .before .before .before .before .before .before .before .before .before .before .before .args .self) (c .before .before .before .before .before .before .before .before .before .before .before .before .before .before .before .before .before .args .heap .now) (c .before .before .before .before .before .before .before .before .before .before .before .before .before .before .before .before .before .args .z) (c .before .before .before .before .before .before .before .before .before .before .before .before .before .before .before .before .before .pre) _ _ (c .before .before .before .before .before .before .portion-of .ensures) in
-    let kept = in-use-kept (c .before .before .before .before .before .before .before .before .before .before .before .before .before .before .before .before .before .args .self) (c .before .before .before .before .take-chunk .result) _ _ _ _ _ (c .before .before .before .before .take-chunk .ensures) in
+    let safe = take-safe (c .before .before .before .before .before .before .before .before .before .before .before .before .before .before .before .before .before .before .before .before .before .args .self) (c .before .before .before .before .before .before .before .before .before .before .before .before .before .before .before .before .before .before .before .before .before .args .heap .now) (c .before .before .before .before .before .before .before .before .before .before .before .before .before .before .before .before .before .before .before .before .before .args .z) (c .before .before .before .before .before .before .before .before .before .before .before .before .before .before .before .before .before .before .before .before .before .pre) _ _ _ _ (sym (ap (λ (q : Found). told q) (c .before .before .before .before .before .before .before .before .before .before .before .before .before .before .before .found2 .given .1)) ∙ c .before .before .before .before .before .before .before .before .before .before .before .before .before .before .before .before .before .search-first-fit .ensures ∙ sym (first-fit-is soundAt (c .before .before .before .before .before .before .before .before .before .before .before .before .before .before .before .before .before .before .before .before .before .args .self) (c .before .before .before .before .before .before .before .before .before .before .before .before .before .before .before .before .before .before .before .before .before .args .heap .now) (c .before .before .before .before .before .before .before .before .before .before .before .before .before .before .before .before .before .before .before .before .before .args .z))) (c .before .before .before .before .before .before .before .before .before .before .before .before .before .link-to-hdr .ensures) (c .before .before .before .before .before .before .before .before .before .before .before .get-hdr-chunk-size .ensures) in
+    let part = portion-room (c .before .before .before .before .before .before .before .before .before .before .before .before .before .before .before .before .before .before .before .before .before .args .self) (c .before .before .before .before .before .before .before .before .before .before .before .before .before .before .before .before .before .before .before .before .before .args .heap .now) (c .before .before .before .before .before .before .before .before .before .before .before .before .before .before .before .before .before .before .before .before .before .args .z) (c .before .before .before .before .before .before .before .before .before .before .before .before .before .before .before .before .before .before .before .before .before .pre) _ _ (c .before .before .before .before .before .before .before .before .before .before .portion-of .ensures) in
+    let kept = in-use-kept (c .before .before .before .before .before .before .before .before .before .before .before .before .before .before .before .before .before .before .before .before .before .args .self) (c .before .before .before .before .before .before .before .before .take-chunk .result) _ _ _ _ _ (c .before .before .before .before .before .before .before .before .take-chunk .ensures) in
     omega (arith, safe .2, part, kept)
 
 hdr-to-payload-requires : tie.Need-hdr-to-payload-requires
 hdr-to-payload-requires c κs = search needs
 
-cast-t27 : tie.Need-cast-t27
-cast-t27 c =
-    let safe = take-safe (c .before .before .before .before .before .before .before .before .before .before .before .before .before .before .before .before .before .before .before .args .self) (c .before .before .before .before .before .before .before .before .before .before .before .before .before .before .before .before .before .before .before .args .heap .now) (c .before .before .before .before .before .before .before .before .before .before .before .before .before .before .before .before .before .before .before .args .z) (c .before .before .before .before .before .before .before .before .before .before .before .before .before .before .before .before .before .before .before .pre) _ _ _ _ (sym (ap (λ (q : Found). told q) (c .before .before .before .before .before .before .before .before .before .before .before .before .before .found2 .given .1)) ∙ c .before .before .before .before .before .before .before .before .before .before .before .before .before .before .before .search-first-fit .ensures ∙ sym (first-fit-is soundAt (c .before .before .before .before .before .before .before .before .before .before .before .before .before .before .before .before .before .before .before .args .self) (c .before .before .before .before .before .before .before .before .before .before .before .before .before .before .before .before .before .before .before .args .heap .now) (c .before .before .before .before .before .before .before .before .before .before .before .before .before .before .before .before .before .before .before .args .z))) (c .before .before .before .before .before .before .before .before .before .before .before .link-to-hdr .ensures) (c .before .before .before .before .before .before .before .before .before .get-hdr-chunk-size .ensures) in
+cast-t30 : tie.Need-cast-t30
+cast-t30 c =
+    let safe = take-safe (c .before .before .before .before .before .before .before .before .before .before .before .before .before .before .before .before .before .before .before .before .before .before .before .args .self) (c .before .before .before .before .before .before .before .before .before .before .before .before .before .before .before .before .before .before .before .before .before .before .before .args .heap .now) (c .before .before .before .before .before .before .before .before .before .before .before .before .before .before .before .before .before .before .before .before .before .before .before .args .z) (c .before .before .before .before .before .before .before .before .before .before .before .before .before .before .before .before .before .before .before .before .before .before .before .pre) _ _ _ _ (sym (ap (λ (q : Found). told q) (c .before .before .before .before .before .before .before .before .before .before .before .before .before .before .before .before .before .found2 .given .1)) ∙ c .before .before .before .before .before .before .before .before .before .before .before .before .before .before .before .before .before .before .before .search-first-fit .ensures ∙ sym (first-fit-is soundAt (c .before .before .before .before .before .before .before .before .before .before .before .before .before .before .before .before .before .before .before .before .before .before .before .args .self) (c .before .before .before .before .before .before .before .before .before .before .before .before .before .before .before .before .before .before .before .before .before .before .before .args .heap .now) (c .before .before .before .before .before .before .before .before .before .before .before .before .before .before .before .before .before .before .before .before .before .before .before .args .z))) (c .before .before .before .before .before .before .before .before .before .before .before .before .before .before .before .link-to-hdr .ensures) (c .before .before .before .before .before .before .before .before .before .before .before .before .before .get-hdr-chunk-size .ensures) in
     record { fits = omega (arith, safe .3) }
 
 same-length : tie.Need-same-length
@@ -78,8 +81,8 @@ same-length-3 : tie.Need-same-length-3
 same-length-3 c = search needs
 
 returns-3 : tie.Need-returns-3
-returns-3 c = listed-hit (c .before .before .before .before .before .before .before .before .before .before .before .before .before .before .before .before .before .before .before .args .self) (c .before .before .before .before .before .before .before .before .before .before .before .before .before .before .before .before .before .before .before .args .heap .now) (c .before .before .before .before .before .before .before .before .before .before .before .before .before .before .before .before .before .before .before .args .z) (c .before .before .before .before .before .before .before .before .before .before .before .before .before .before .before .before .before .before .before .pre) (c .before .before .before .before .before .before .take-chunk .result) (c .before .count-in .result) _ _ _ _ _ _ _ _ _ _ (sym (ap (λ (q : Found). told q) (c .before .before .before .before .before .before .before .before .before .before .before .before .before .found2 .given .1)) ∙ c .before .before .before .before .before .before .before .before .before .before .before .before .before .before .before .search-first-fit .ensures ∙ sym (first-fit-is soundAt (c .before .before .before .before .before .before .before .before .before .before .before .before .before .before .before .before .before .before .before .args .self) (c .before .before .before .before .before .before .before .before .before .before .before .before .before .before .before .before .before .before .before .args .heap .now) (c .before .before .before .before .before .before .before .before .before .before .before .before .before .before .before .before .before .before .before .args .z))) (c .before .before .before .before .before .before .before .before .before .before .before .link-to-hdr .ensures) (c .before .before .before .before .before .before .before .before .before .get-hdr-chunk-size .ensures)
-    (c .before .before .before .before .before .before .before .before .portion-of .ensures) (c .before .before .before .before .before .before .take-chunk .ensures) (c .before .before .before .hdr-to-right-hdr .ensures) (c .before .before .hdr-to-offset .ensures) (c .before .count-in .ensures) (c .hdr-to-payload .ensures) refl
+returns-3 c = listed-hit (c .before .before .before .before .before .before .before .before .before .before .before .before .before .before .before .before .before .before .before .before .before .before .before .args .self) (c .before .before .before .before .before .before .before .before .before .before .before .before .before .before .before .before .before .before .before .before .before .before .before .args .heap .now) (c .before .before .before .before .before .before .before .before .before .before .before .before .before .before .before .before .before .before .before .before .before .before .before .args .z) (c .before .before .before .before .before .before .before .before .before .before .before .before .before .before .before .before .before .before .before .before .before .before .before .pre) (c .before .before .before .before .before .before .before .before .before .before .take-chunk .result) (c .before .count-in .result) _ _ _ _ _ _ _ _ _ _ _ (sym (ap (λ (q : Found). told q) (c .before .before .before .before .before .before .before .before .before .before .before .before .before .before .before .before .before .found2 .given .1)) ∙ c .before .before .before .before .before .before .before .before .before .before .before .before .before .before .before .before .before .before .before .search-first-fit .ensures ∙ sym (first-fit-is soundAt (c .before .before .before .before .before .before .before .before .before .before .before .before .before .before .before .before .before .before .before .before .before .before .before .args .self) (c .before .before .before .before .before .before .before .before .before .before .before .before .before .before .before .before .before .before .before .before .before .before .before .args .heap .now) (c .before .before .before .before .before .before .before .before .before .before .before .before .before .before .before .before .before .before .before .before .before .before .before .args .z))) (c .before .before .before .before .before .before .before .before .before .before .before .before .before .before .before .link-to-hdr .ensures) (c .before .before .before .before .before .before .before .before .before .before .before .before .before .get-hdr-chunk-size .ensures)
+    (c .before .before .before .before .before .before .before .before .before .before .before .before .portion-of .ensures) (c .before .before .before .before .before .before .before .before .before .before .take-chunk .ensures) (c .before .before .before .before .before .before .clear-payload .ensures) (c .before .before .before .hdr-to-right-hdr .ensures) (c .before .before .hdr-to-offset .ensures) (c .before .count-in .ensures) (c .hdr-to-payload .ensures) refl
 
 pub serve-listed-spec : {M : Type 1} → statement M
 serve-listed-spec =
@@ -94,11 +97,12 @@ serve-listed-spec =
     get-hdr-chunk-size-requires
     portion-of-requires
     take-chunk-requires
+    clear-payload-requires
     hdr-to-right-hdr-requires
     hdr-to-offset-requires
     count-in-requires
     hdr-to-payload-requires
-    cast-t27
+    cast-t30
     same-length
     returns
     same-length-2
