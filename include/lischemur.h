@@ -103,7 +103,10 @@ typedef struct lischemur_marking {
  */
 lischemur_reply lischemur_make(lischemur_record *record, uint32_t *heap, uint64_t heap_words, uint32_t words);
 
-/* Hands out a payload of at least `size` bytes, or replies 1, 2, 5 or 3, tested in that order. */
+/*
+ * Hands out a payload of at least `size` bytes, or replies 1, 2, 5 or 3, tested in that order. Every word of the payload is 0, up
+ * to its chunk's end.
+ */
 lischemur_reply lischemur_hand_out(lischemur_record *record, uint32_t *heap, uint64_t heap_words, uint32_t size);
 
 /* Takes back the payload that begins at this offset, or replies 5 or 4, tested in that order. */

@@ -38,6 +38,8 @@ fn making(words: u32) -> Step {
 /// What has been compared so far.
 struct Comparison {
     pair: Pair,
+    /// Histories played so far; in every second one the Rust's payloads are left as it hands them out.
+    played: u64,
     /// Audits that said yes and no, alike on both sides.
     sound: u64,
     damaged: u64,
@@ -47,7 +49,9 @@ struct Comparison {
 
 impl Comparison {
     /// Play a history. A difference is the end.
-    fn play(&mut self, name: &str, history: &History) {
+    fn play(&mut self, name: &str, history: &mut History) {
+        self.played += 1;
+        history.alone = self.played % 2 == 0;
         if self.pair.play(history).is_err() {
             self.report(name, history, None);
         }
@@ -104,11 +108,12 @@ impl Comparison {
         }
     }
 
-    /// Every history of up to so many requests: asks of these sizes, and all frees.
+    /// Every history of up to so many requests: asks of these sizes, each payload written by its task, and all frees.
     fn every_history(&mut self, words: u32, sizes: &[u32], depth: usize) {
         let mut history = History {
             words,
             fill: words as u64,
+            alone: false,
             steps: vec![making(words)],
         };
         self.extend(&mut history, sizes, depth);
@@ -120,11 +125,16 @@ impl Comparison {
         if depth == 0 {
             return;
         }
-        let frees = (0..self.pair.live_count()).map(Step::Free);
-        for step in sizes.iter().map(|size| Step::Ask(*size)).chain(frees) {
-            history.steps.push(step);
+        let (live, length) = (self.pair.live_count(), history.steps.len());
+        // The payload that is handed out next has the rank of the number that are live now.
+        let asks = sizes
+            .iter()
+            .map(|size| vec![Step::Ask(*size), Step::Write(live, 1)]);
+        let frees = (0..live).map(|rank| vec![Step::Free(rank)]);
+        for steps in asks.chain(frees) {
+            history.steps.extend(steps);
             self.extend(history, sizes, depth - 1);
-            history.steps.pop();
+            history.steps.truncate(length);
         }
     }
 
@@ -143,9 +153,10 @@ impl Comparison {
                 steps.extend([Step::Ask(28), Step::Ask(60), Step::Mark(1)]);
                 self.play(
                     "every order of frees",
-                    &History {
+                    &mut History {
                         words: 65,
                         fill: 7,
+                        alone: false,
                         steps,
                     },
                 );
@@ -166,21 +177,22 @@ impl Comparison {
                 .into_iter()
                 .chain(asks)
                 .chain([Step::Free(0), Step::Free(1)]);
-            let history = History {
+            let mut history = History {
                 words,
-                fill: 0,
+                fill: 1,
+                alone: false,
                 steps: steps.collect(),
             };
-            self.play("every length", &history);
+            self.play("every length", &mut history);
         }
     }
 
     /// A random history, and damage to the heap that it leaves.
     fn random(&mut self, seed: u64) {
         let mut numbers = Numbers::new(seed);
-        let history = random_history(&mut numbers);
+        let mut history = random_history(&mut numbers);
         let name = format!("random history {seed}");
-        self.play(&name, &history);
+        self.play(&name, &mut history);
         let times = if history.words < 2000 { 60 } else { 6 };
         for _ in 0..times {
             let damage = numbers.next();
@@ -231,8 +243,8 @@ impl Comparison {
         Ok(())
     }
 
-    /// Whether a call on a state answers one of these numbers if it may be served, else 5; and leaves a sound heap after 0, and
-    /// every byte as it was after anything else.
+    /// Whether a call on a state answers one of these numbers if it may be served, else 5; and leaves a sound heap after 0, with an
+    /// empty payload if one was handed out, and every byte as it was after anything else.
     fn judge_call(
         &mut self,
         state: &State,
@@ -255,6 +267,9 @@ impl Comparison {
         if reply.number == 0 && !audit::sound(&after.record, &after.words) {
             return Err(format!("a call answers {reply} and leaves no sound heap"));
         }
+        if reply.value != 0 && !is_empty(&after.words, reply.value as usize / 4) {
+            return Err(format!("a call answers {reply} and the payload is not 0"));
+        }
         Ok(())
     }
 
@@ -268,12 +283,13 @@ impl Comparison {
             Step::Free(0),
             Step::Free(0),
         ];
-        let history = History {
+        let mut history = History {
             words: 65,
             fill: 3,
+            alone: false,
             steps: steps.to_vec(),
         };
-        self.play("a short history", &history);
+        self.play("a short history", &mut history);
         for index in 0..65 + 8 {
             self.pair.memory[index] ^= 1;
             assert!(
@@ -330,6 +346,12 @@ impl Comparison {
     }
 }
 
+/// Whether every word of the payload that begins at an index is 0, up to its chunk's end.
+fn is_empty(words: &[u32], payload: usize) -> bool {
+    let end = payload - 1 + words[payload - 1] as usize / 4;
+    words[payload..end].iter().all(|word| *word == 0)
+}
+
 /// One change of each field of a record.
 fn changes() -> Vec<Box<dyn Fn(&mut Record)>> {
     let mut all: Vec<Box<dyn Fn(&mut Record)>> = vec![
@@ -377,6 +399,7 @@ fn random_history(numbers: &mut Numbers) -> History {
     History {
         words,
         fill: numbers.pick(&[0, 1, 1, 2, 3]),
+        alone: false,
         steps,
     }
 }
@@ -445,11 +468,14 @@ fn main() {
     let end = Instant::now() + Duration::from_secs(seconds());
     let mut all = Comparison {
         pair: Pair::only(),
+        played: 0,
         sound: 0,
         damaged: 0,
         calls: 0,
     };
-    all.is_sharp();
+    for _ in 0..2 {
+        all.is_sharp();
+    }
     all.longest();
     for words in [5, 7, 9, 11, 13, 17, 21] {
         all.every_history(words, &[12, 20, 28], 7);
@@ -466,10 +492,13 @@ fn main() {
         all.random(histories);
     }
     println!(
-        "compare: {} requests put to Rust and port, {} of them in {histories} random histories, no difference; {} states audited alike, \
-         {} sound and {} damaged, with {} calls on them",
+        "compare: {} requests put to Rust and port, {} of them in {histories} random histories, no difference; {} words compared with the Rust's, \
+         {} more, in payloads that it had been left to hand out uncleared, held to 0; {} states audited alike, {} sound and {} damaged, with {} calls \
+         on them",
         all.pair.requests,
         all.pair.requests - whole,
+        all.pair.words_compared,
+        all.pair.words_zero,
         all.sound + all.damaged,
         all.sound,
         all.damaged,

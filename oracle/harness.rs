@@ -2,19 +2,23 @@
 //! lines of the rules. docs/ORACLE.md says which answers are the oracle's and which the harness's,
 //! and describes the dump.
 //!
-//!     harness [--dump] [--words N] [--fill SEED | --unguarded] [--marks STACKLETS] < frames
+//!     harness [--dump] [--words N] [--fill SEED | --unguarded] [--uncleared] [--marks STACKLETS] < frames
 //!
 //! --dump            after every answer line, the whole state on one line
 //! --words N         the memory has N words (16383 if not said, 65527 at most)
-//! --fill SEED       memory starts with numbers instead of zeros, and every payload is overwritten
-//!                   with numbers when it is handed out, as its task would
+//! --fill SEED       memory starts with numbers instead of zeros, and before the next request every
+//!                   payload is overwritten with numbers by its task
 //! --marks STACKLETS after every handout that is done, the adjusted mark for so many stacklets
+//! --uncleared       payloads are left as the oracle hands them out; if not said, the task that gets
+//!                   one first sets it to 0, so that its words can be compared with the rules'
 //! --unguarded       sizes above 4294967284, and frees of the chunk that is cached already, go to
-//!                   the oracle too; where that leaves no heap, the harness stops with status 3
+//!                   the oracle too, and no task writes anything; where that leaves no heap, the
+//!                   harness stops with status 3
 
 use oracle::{can_make, Name, Oracle};
 use std::collections::HashSet;
 use std::io::{self, BufRead, Write};
+use std::ops::Range;
 use std::process::exit;
 
 /// The largest size that the rules serve.
@@ -36,6 +40,7 @@ struct Options {
     words: u32,
     fill: Option<u32>,
     marks: Option<u32>,
+    uncleared: bool,
     unguarded: bool,
 }
 
@@ -47,6 +52,8 @@ struct Harness {
     live: HashSet<u32>,
     /// For each word of the memory, whether it was last written as a link word.
     is_link: Vec<bool>,
+    /// What a loader or a task has yet to write: all words, or the payload handed out last.
+    unwritten: Range<u32>,
     /// What the words behind the heap's guard held when the heap was made.
     behind: Vec<u32>,
     /// The last number given by `number`.
@@ -62,12 +69,13 @@ impl Harness {
             oracle: Oracle::only(),
             live: HashSet::new(),
             is_link: vec![false; options.words as usize],
+            unwritten: 0..options.words,
             behind: Vec::new(),
             seed: options.fill.unwrap_or(0),
             broken: None,
             options,
         };
-        harness.fill(0, harness.options.words);
+        harness.fill();
         harness
     }
 
@@ -81,21 +89,27 @@ impl Harness {
         self.seed >> 24
     }
 
-    /// With --fill, overwrite the words from one index up to another.
-    fn fill(&mut self, from: u32, to: u32) {
+    /// With --fill, let the loader or the last task write.
+    fn fill(&mut self) {
         if self.options.fill.is_none() {
             return;
         }
-        for index in from..to {
+        for index in std::mem::take(&mut self.unwritten) {
             let number = self.number();
-            // Safety: no heap is made yet, or the words are those of a payload just handed out.
-            unsafe { self.oracle.set_word(index, number) }
-            self.is_link[index as usize] = false;
+            self.write(index, number);
         }
+    }
+
+    /// Write a word: one of memory before a heap is made, or of a payload that is live.
+    fn write(&mut self, index: u32, value: u32) {
+        // Safety: it is no header, link word, footer or guard.
+        unsafe { self.oracle.set_word(index, value) }
+        self.is_link[index as usize] = false;
     }
 
     /// The answer to a request.
     fn answer(&mut self, request: Request) -> Answer {
+        self.fill();
         match request {
             Request::Make(words) => self.make(words),
             Request::HandOut(size) => self.hand_out(size),
@@ -154,7 +168,7 @@ impl Harness {
         Answer(0, 0, self.noted())
     }
 
-    /// Remember a payload that was handed out, and let its task write to it.
+    /// Remember a payload that was handed out, and let its task set it to 0.
     fn handed_out(&mut self, offset: u32) -> Answer {
         let compared = self.noted();
         let (length, _) = self.oracle.header(offset - 4);
@@ -163,7 +177,12 @@ impl Harness {
         } else if !self.live.insert(offset) {
             self.broken = Some(format!("offset {offset} was handed out twice"));
         } else {
-            self.fill(offset / 4, (offset - 4 + length) / 4);
+            self.unwritten = offset / 4..(offset - 4 + length) / 4;
+            if !self.options.uncleared && !self.options.unguarded {
+                for index in self.unwritten.clone() {
+                    self.write(index, 0);
+                }
+            }
         }
         Answer(0, offset, compared)
     }
@@ -299,8 +318,8 @@ fn request_of(line: &[u8]) -> Option<Request> {
 /// Say what the command line should be, and stop.
 fn usage() -> ! {
     eprintln!(
-        "usage: harness [--dump] [--words N] [--fill SEED | --unguarded] [--marks STACKLETS] \
-         < frames"
+        "usage: harness [--dump] [--words N] [--fill SEED | --unguarded] [--uncleared] \
+         [--marks STACKLETS] < frames"
     );
     exit(2)
 }
@@ -312,6 +331,7 @@ fn options() -> Options {
         words: 16_383,
         fill: None,
         marks: None,
+        uncleared: false,
         unguarded: false,
     };
     let mut args = std::env::args().skip(1);
@@ -326,6 +346,7 @@ fn options() -> Options {
             "--words" => options.words = number(),
             "--fill" => options.fill = Some(number()),
             "--marks" => options.marks = Some(number()),
+            "--uncleared" => options.uncleared = true,
             "--unguarded" => options.unguarded = true,
             _ => usage(),
         }

@@ -80,10 +80,10 @@ def check_fit(heap, kind, size):
         raise Fault("a search for less than 512 that finds a chunk compares one: s = %d, free %s" % (s, lengths))
 
 
-def every_history(words, sizes, depth):
+def every_history(words, sizes, depth, heap=model.Heap):
     """Every history of up to so many requests on a heap of so many words, asks of these sizes and all frees:
     frames and the lines that the model writes for them."""
-    trace = model.Trace(words=words, dump=True)
+    trace = model.Trace(words=words, dump=True, heap=heap)
     frames, wanted = [], []
 
     def play(history):
@@ -178,6 +178,48 @@ class SetsTheFlagAlways(model.Heap):
         self.record.fresh = True
 
 
+class LeavesPayloadsAsTheyAre(model.Heap):
+    """The rules before payloads arrived empty: what the Rust does when its tasks clear nothing."""
+
+    def clear(self, chunk):
+        pass
+
+
+class LeavesTheCachedPayloadAsItIs(model.Heap):
+    def hand_out(self, size):
+        self.from_cache = True
+        return super().hand_out(size)
+
+    def search(self, s):
+        self.from_cache = False
+        return super().search(s)
+
+    def clear(self, chunk):
+        if not self.from_cache:
+            super().clear(chunk)
+
+
+class ClearsNoSlack(model.Heap):
+    def hand_out(self, size):
+        self.size = size
+        return super().hand_out(size)
+
+    def clear(self, chunk):
+        super().clear(model.Chunk(chunk.w, 4 + (self.size + 3) // 4 * 4, True))
+
+
+class ClearsTheRemainderToo(model.Heap):
+    def split(self, chunk, s):
+        self.clear(chunk)
+        return super().split(chunk, s)
+
+
+class ClearsWhatIsReleased(model.Heap):
+    def release(self, chunk):
+        self.clear(chunk)
+        super().release(chunk)
+
+
 SLIPS = (
     SearchesItsOwnClass,
     FitsBestInClassFive,
@@ -189,4 +231,9 @@ SLIPS = (
     ListsAtTheTail,
     ServesFromTheCacheOnlyWhatFits,
     SetsTheFlagAlways,
+    LeavesPayloadsAsTheyAre,
+    LeavesTheCachedPayloadAsItIs,
+    ClearsNoSlack,
+    ClearsTheRemainderToo,
+    ClearsWhatIsReleased,
 )

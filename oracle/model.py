@@ -1,6 +1,6 @@
 """The model: the rules of the meter heap as a Python program, to judge other programs by.
 
-Written from the rules (document 01) and in their order, not from the Rust. It finds chunks by
+Written from the rules (document 01, as later requests amended it) and in their order, not from the Rust. It finds chunks by
 walking the tiling, not by footers and left bits, and keeps no knowledge beside the record and the
 words, except which words hold links (for dumps only). docs/ORACLE.md says what it is compared with.
 
@@ -249,6 +249,7 @@ class Heap:
         if self.cache_serves(s):
             cached = self.chunk(word_of(self.record.cached))
             self.record.cached = 0
+            self.clear(cached)
             return Answer(DONE, cached.payload)
         chunk, compared = self.search(s)
         if chunk is None:
@@ -257,6 +258,7 @@ class Heap:
         chunk = self.split(chunk, s)
         self.mark_used(chunk)
         self.count(chunk)
+        self.clear(chunk)
         return Answer(DONE, chunk.payload, compared)
 
     def cache_serves(self, s):
@@ -299,6 +301,11 @@ class Heap:
             r.high, r.fresh = end, True
         r.in_use += chunk.length
         r.peak = max(r.peak, r.in_use)
+
+    def clear(self, chunk):
+        """Set the payload of a chunk that is handed out to 0, up to the chunk's end."""
+        for w in range(chunk.w + 1, chunk.right):
+            self.write(w, 0)
 
     # taking back
 
@@ -469,23 +476,26 @@ class Trace:
         self.seed = fill
         self.marks = marks
         self.dump = dump
-        self.fill(0, words)
+        self.unwritten = range(words)  # what a loader or a task has yet to write: all words, or the payload handed out last
+        self.fill()
 
-    def fill(self, start, end):
-        """With a seed, overwrite words with numbers below 256, as a loader or a task would."""
+    def fill(self):
+        """With a seed, let the loader or the last task write: numbers below 256."""
         if self.seed is None:
             return
-        for w in range(start, end):
+        for w in self.unwritten:
             self.seed = (self.seed * 1_664_525 + 1_013_904_223) % 2**32
             self.heap.write(w, self.seed >> 24)
+        self.unwritten = ()
 
     def request(self, kind, number):
         """Serve one request and give the lines to be written for it."""
         heap = self.heap
+        self.fill()
         answer = (heap.make, heap.hand_out, heap.take_back)[kind](number)
         lines = [answer.line()]
         if kind == 1 and answer.number == DONE:
-            self.fill(answer.value // 4, heap.chunk(answer.value // 4 - 1).right)
+            self.unwritten = range(answer.value // 4, heap.chunk(answer.value // 4 - 1).right)
             if self.marks is not None:
                 mark = heap.mark(self.marks)
                 lines.append("mark=unchanged" if mark is None else f"mark={mark}")

@@ -5,6 +5,10 @@
 //! cached chunk, the counters and the flag. Links are compared by what they name; since the sentinels' links and every link word
 //! agree, so do the lists and their order. A word is a link word if it was last written as one, also where it has become part of a payload.
 //! Outside the Rust's domain it is not asked: there the answer has to be the rules' number, and nothing may have changed.
+//!
+//! The port clears a payload when it hands it out, and the Rust does not. In one half of the histories the task that gets a payload from the
+//! Rust clears it, and every word is compared with the Rust's. In the other half the Rust is left alone: a word of a payload has
+//! to be 0 from its handout until a task writes it or a call makes it a header, footer or link word, and every other word the Rust's.
 
 use crate::damage::State;
 use crate::numbers::Numbers;
@@ -35,11 +39,13 @@ pub enum Step {
     Mark(u32),
 }
 
-/// A whole history: what memory holds before it (zeros for seed 0), and its steps.
+/// A whole history: what memory holds before it (zeros for seed 0), whether the Rust's payloads are left as it hands them out, and
+/// its steps.
 #[derive(Clone)]
 pub struct History {
     pub words: u32,
     pub fill: u64,
+    pub alone: bool,
     pub steps: Vec<Step>,
 }
 
@@ -51,6 +57,11 @@ pub struct Pair {
     pub memory: Vec<u32>,
     /// For each word of the memory, whether it was last written as a link word.
     is_link: Vec<bool>,
+    /// Whether the Rust's payloads are left as it hands them out. If so, for each word whether it was handed out and not written since,
+    /// and how many such words there are.
+    alone: bool,
+    cleared: Vec<bool>,
+    cleared_count: u32,
     /// Payloads handed out and not taken back.
     live: Vec<u32>,
     /// The words of the heap, 0 before one is made.
@@ -59,6 +70,9 @@ pub struct Pair {
     watched: u32,
     /// Requests put to both so far.
     pub requests: u64,
+    /// Words compared so far with the Rust's, and words held to 0 because the Rust had been left alone.
+    pub words_compared: u64,
+    pub words_zero: u64,
 }
 
 /// The answer of a number alone.
@@ -88,16 +102,21 @@ impl Pair {
             record: Record::default(),
             memory: vec![0; words + 8],
             is_link: vec![false; words + 8],
+            alone: false,
+            cleared: vec![false; words + 8],
+            cleared_count: 0,
             live: Vec::new(),
             made: 0,
             watched: 0,
             requests: 0,
+            words_compared: 0,
+            words_zero: 0,
         }
     }
 
     /// Play a history; what differs and after which step, if anything does.
     pub fn play(&mut self, history: &History) -> Result<(), (usize, String)> {
-        self.begin(history.words, history.fill);
+        self.begin(history);
         for (at, step) in history.steps.iter().enumerate() {
             self.step(*step).map_err(|what| (at, what))?;
         }
@@ -106,8 +125,11 @@ impl Pair {
 
     /// Play a history and say each step with its answers.
     pub fn tell(&mut self, history: &History) -> String {
-        self.begin(history.words, history.fill);
-        let mut lines = format!("memory: {} words, fill {}\n", history.words, history.fill);
+        self.begin(history);
+        let mut lines = format!(
+            "memory: {} words, fill {}, the Rust left alone: {}\n",
+            history.words, history.fill, history.alone
+        );
         for step in &history.steps {
             let live = self.live.clone();
             let told = match step {
@@ -125,14 +147,17 @@ impl Pair {
     }
 
     /// Memory before a history: no heap, and words of a seed.
-    pub fn begin(&mut self, words: u32, fill: u64) {
+    pub fn begin(&mut self, history: &History) {
         self.record = Record::default();
         self.made = 0;
         self.live.clear();
-        self.watched = (words + BEHIND).min(oracle::MOST_WORDS);
-        let mut numbers = Numbers::new(fill);
+        self.alone = history.alone;
+        self.cleared[..self.watched as usize].fill(false);
+        self.cleared_count = 0;
+        self.watched = (history.words + BEHIND).min(oracle::MOST_WORDS);
+        let mut numbers = Numbers::new(history.fill);
         for index in 0..self.watched {
-            let word = if fill == 0 {
+            let word = if history.fill == 0 {
                 0
             } else {
                 misleading(&mut numbers)
@@ -144,9 +169,34 @@ impl Pair {
     /// Write a word of both memories.
     fn write(&mut self, index: u32, word: u32) {
         self.memory[index as usize] = word;
+        self.write_rust(index, word);
+        self.written(index);
+    }
+
+    /// Write a word of the Rust's memory.
+    fn write_rust(&mut self, index: u32, word: u32) {
         self.is_link[index as usize] = false;
         // Safety: no heap is made yet, or the word is one of a payload that is live.
         unsafe { self.oracle.set_word(index, word) }
+    }
+
+    /// Note that both have written a word.
+    fn written(&mut self, index: u32) {
+        self.cleared_count -= self.cleared[index as usize] as u32;
+        self.cleared[index as usize] = false;
+    }
+
+    /// The Rust has handed out a payload: its task clears it, or its words have to be 0 in the port alone.
+    fn handed_out(&mut self, payload: u32) {
+        let (length, _) = self.oracle.header(payload - 4);
+        for index in payload / 4..(payload - 4 + length) / 4 {
+            if self.alone {
+                self.cleared_count += !self.cleared[index as usize] as u32;
+                self.cleared[index as usize] = true;
+            } else {
+                self.write_rust(index, 0);
+            }
+        }
     }
 
     /// Put a step to both and compare: the answer, or what differs.
@@ -170,8 +220,8 @@ impl Pair {
         if rust != port {
             return Err(format!("answers differ: {rust} wanted, {port} given"));
         }
-        self.note_links();
-        self.difference().map_or(Ok(port.to_string()), Err)
+        self.note_tags();
+        self.compare().map_or(Ok(port.to_string()), Err)
     }
 
     /// Both answers to making. Lengths that are not accepted, or not those of the slice, get 6.
@@ -203,7 +253,10 @@ impl Pair {
     /// The Rust's answer to asking.
     fn ask_rust(&mut self, size: u32) -> Reply {
         let offset = self.oracle.hand_out(size);
-        self.live.extend(offset);
+        if let Some(payload) = offset {
+            self.live.push(payload);
+            self.handed_out(payload);
+        }
         Reply {
             number: if offset.is_some() { 0 } else { 3 },
             value: offset.unwrap_or(0),
@@ -238,7 +291,7 @@ impl Pair {
         if rust != port {
             return Err(format!("marks differ: {rust:?} wanted, {port:?} given"));
         }
-        self.difference().map_or(Ok(format!("{port:?}")), Err)
+        self.compare().map_or(Ok(format!("{port:?}")), Err)
     }
 
     /// A task writes into its payload, all of it or a stretch.
@@ -261,17 +314,22 @@ impl Pair {
         }
     }
 
-    /// Note which words now are link words and which are footers: those of the free chunks.
-    fn note_links(&mut self) {
+    /// Note which words now are headers, link words and footers: those of the chunks, of the free ones for the last two, and the guard.
+    fn note_tags(&mut self) {
         let mut offset = 0;
         while offset + 4 < 4 * self.made {
             let (length, used) = self.oracle.header(offset);
+            self.written(offset / 4);
             if !used {
-                self.is_link[offset as usize / 4 + 1] = true;
-                self.is_link[(offset + length) as usize / 4 - 1] = false;
+                let (links, footer) = (offset / 4 + 1, (offset + length) / 4 - 1);
+                self.is_link[links as usize] = true;
+                self.is_link[footer as usize] = false;
+                self.written(links);
+                self.written(footer);
             }
             offset += length;
         }
+        self.written(offset / 4);
     }
 
     /// How many payloads are live.
@@ -285,6 +343,13 @@ impl Pair {
             record: self.record,
             words: self.memory[..self.made as usize].to_vec(),
         }
+    }
+
+    /// What differs between the two states, if anything does; and how many words were compared.
+    fn compare(&mut self) -> Option<String> {
+        self.words_compared += (self.watched - self.cleared_count) as u64;
+        self.words_zero += self.cleared_count as u64;
+        self.difference()
     }
 
     /// What differs between the two states, if anything does.
@@ -341,6 +406,9 @@ impl Pair {
     #[inline]
     fn word_difference(&self, index: u32) -> Option<String> {
         let given = self.memory[index as usize];
+        if self.cleared[index as usize] {
+            return (given != 0).then(|| format!("word {index} of a payload is {given:#x}"));
+        }
         let rust = self.oracle.word(index);
         if !self.is_link[index as usize] {
             return (rust != given)

@@ -30,12 +30,15 @@ static const uint32_t outside = 0xA5A5A5A5;
 static uint32_t seed, stacklets;
 static bool filling, marking;
 
-/* Overwrites words with numbers below 256, as a loader or a task would. */
-static void fill(uint32_t start, uint32_t end)
+/* What a loader or a task has yet to write: all words, or the payload handed out last. */
+static uint32_t unwritten, unwritten_end;
+
+/* Lets the loader or the last task write: numbers below 256. */
+static void fill(void)
 {
-    for (uint32_t w = start; filling && w < end; w++) {
+    for (; filling && unwritten < unwritten_end; unwritten++) {
         seed = seed * UINT32_C(1664525) + UINT32_C(1013904223);
-        heap[w] = seed >> 24;
+        heap[unwritten] = seed >> 24;
     }
 }
 
@@ -62,11 +65,11 @@ static void show(void)
     printf("\n");
 }
 
-/* After a handout: the task writes its payload, and the mark is read. */
+/* After a handout: its task is to write the payload, and the mark is read. */
 static void handed_out(uint32_t payload)
 {
-    uint32_t w = payload / 4 - 1;
-    fill(w + 1, w + heap[w] / 4);
+    unwritten = payload / 4;
+    unwritten_end = unwritten - 1 + heap[unwritten - 1] / 4;
     if (marking) {
         lischemur_marking m = lischemur_mark(record, stacklets);
         record = m.record;
@@ -81,6 +84,7 @@ static void handed_out(uint32_t payload)
 static void serve(uint32_t kind, uint32_t number)
 {
     lischemur_reply r;
+    fill();
     if (kind == 0) {
         r = lischemur_make(&record, heap, number <= words ? number : words, number);
         lent = r.number == LISCHEMUR_DONE ? number : lent;
@@ -155,7 +159,8 @@ int main(int count, char **values)
     size_t length = 0;
     int c;
     options(count, values);
-    fill(0, words);
+    unwritten_end = words;
+    fill();
     memory.unused = heap[words] = outside;
     while ((c = getchar()) != EOF) {
         if (c != '\n') {

@@ -3,8 +3,8 @@
 //! After each request answer, offset, compared count, counters, cached chunk, the sentinels' links and
 //! every tag of the tiling are equal, links by the chunk or sentinel that they name. Inside the
 //! compared domain (lengths up to 65,527, sizes up to 4,294,967,284, frees of live payloads) the Rust is
-//! asked; a request outside it must be refused by name and change nothing. Tasks write all over their
-//! payloads, and find them as they left them.
+//! asked; a request outside it must be refused by name and change nothing. Tasks find their payloads
+//! empty, which the Rust's need not be, write all over them, and find them as they left them.
 
 use crate::checks::{set_word, word, Checks, Numbers};
 use lischemur::{Heap, Memory, Offset, Refusal, MOST_SIZE};
@@ -109,6 +109,8 @@ impl Pair<'_> {
         let end = (offset - 4 + (word(&self.heap, offset / 4 - 1) & !3)) / 4;
         checks.holds(format_args!("payload of {size}"), 4 * end - offset >= size);
         let mut written = Vec::new();
+        let empty = (offset / 4..end).all(|index| word(&self.heap, index) == 0);
+        checks.holds(format_args!("payload of {size} arrives empty"), empty);
         for index in offset / 4..end {
             let value = self.numbers.below(256);
             self.write(index, value);
@@ -195,8 +197,7 @@ fn history(checks: &mut Checks, oracle: &mut Oracle, seed: u64, words: u32, requ
 }
 
 /// Run all; how many requests were compared.
-pub fn run(checks: &mut Checks) -> u32 {
-    let oracle = &mut Oracle::only();
+pub fn run(checks: &mut Checks, oracle: &mut Oracle) -> u32 {
     let mut requests = 0;
     for seed in 0..HISTORIES {
         let numbers = &mut Numbers::new(1_000_000 + seed);

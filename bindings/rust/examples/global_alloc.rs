@@ -67,6 +67,11 @@ unsafe impl GlobalAlloc for Locked {
         }
     }
 
+    // a payload arrives empty
+    unsafe fn alloc_zeroed(&self, layout: Layout) -> *mut u8 {
+        self.alloc(layout)
+    }
+
     unsafe fn dealloc(&self, payload: *mut u8, _: Layout) {
         let freed = NonNull::new(payload).and_then(|payload| self.with(|heap| heap.free(payload)));
         if freed != Some(Ok(())) {

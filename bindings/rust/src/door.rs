@@ -96,7 +96,7 @@ extern "C" {
     /// Make a heap of all `len` words at `heap`; `words` must say the same number.
     pub(crate) fn lischemur_make(rec: *mut Record, heap: *mut u32, len: usize, words: u32)
         -> Reply;
-    /// Hand out a payload of at least `size` bytes.
+    /// Hand out a payload of at least `size` bytes, all of it 0.
     pub(crate) fn lischemur_hand_out(
         rec: *mut Record,
         heap: *mut u32,

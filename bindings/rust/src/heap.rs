@@ -78,8 +78,8 @@ impl<'a> Heap<'a> {
         self.answered(reply).map(|_| ())
     }
 
-    /// Hand out a payload of at least `size` bytes. `ZeroSize`, `TooLarge`, `Damaged` and `NoFit` are
-    /// tested in this order.
+    /// Hand out a payload of at least `size` bytes, all of it 0 up to its chunk's end. `ZeroSize`,
+    /// `TooLarge`, `Damaged` and `NoFit` are tested in this order.
     pub fn hand_out(&mut self, size: u32) -> Result<Offset, Refusal> {
         // SAFETY: as in `make_again`; any size is accepted.
         let reply = unsafe {
