@@ -10,7 +10,7 @@ use Rattle.words.specs.Links.{setLinkAt}
 use Rattle.frame.specs.Hex.{digitOf, byteOf, digitsOf}
 use Rattle.frame.specs.Answer.{answerBytes}
 use Rattle.rules.specs.Steps.{unlink, link, setLeft, clearLeft, markFree, markUsed, oneChunk, returnExcess, takeChunk, leftFree, rightFree, merge, merged}
-use Rattle.rules.specs.Steps.{releaseChunk}
+use Rattle.rules.specs.Steps.{releaseChunk, emptied, cleared}
 use Rattle.rules.specs.Search.{findWalk, searchAll}
 use Rattle.rules.specs.Place.{usedAt, usedWalk}
 use Rattle.rules.specs.Lists.{walk}
@@ -49,7 +49,7 @@ pub worn-written :
     ≡ says 0 4 0 (bytes wornMap ++ replicate 4 255) ∷ says 6 0 0 (replicate 75 255) ∷ []
 unfolding written laid rowsOf mapOf linesOf answerBytes digitsOf byteOf
     call handOut takeBack live choose listed make serve fromCache fromList firstFit settled link unlink setLeft clearLeft markFree markUsed oneChunk
-    returnExcess takeChunk leftFree rightFree merge merged releaseChunk setLinkAt classOf findWalk searchAll usedWalk usedAt soundᵇ showsᵇ candidate
+    returnExcess takeChunk emptied cleared leftFree rightFree merge merged releaseChunk setLinkAt classOf findWalk searchAll usedWalk usedAt soundᵇ showsᵇ candidate
     legalᵇ calmᵇ tagsᵇ segᵇ belowᵇ everyᵇ slotᵇ exactᵇ distinctᵇ underᵇ cacheᵇ figuresᵇ tile walk frees
 worn-written = refl
 
