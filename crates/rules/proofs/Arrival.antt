@@ -29,7 +29,7 @@ use Rattle.rules.proofs.LayoutFacts.{free-there}
 use Rattle.rules.proofs.Place.{free-at, used-at}
 use Rattle.rules.proofs.Search.{find-fits, Fits}
 use Rattle.rules.proofs.Named.{size-at, byte-at}
-use Rattle.rules.proofs.Follow.{L, whole, bytes, recached, took, took-used, used-size, met-free, search-same, choose-cached, choose-picked, Picked, portion-least, r16, r8}
+use Rattle.rules.proofs.Follow.{L, whole, bytes, uncached, took, took-used, used-size, met-free, search-same, choose-cached, choose-picked, Picked, portion-least, r16, r8}
 use Rattle.rules.proofs.Decide.{sound-true, true-sound, layout-unique, figures-unique}
 use Rattle.rules.proofs.Cases.{hand-cases}
 use Rattle.rules.proofs.Demands.{hand-follows, used-there}
@@ -122,10 +122,7 @@ module _ {S : Type 0} {op : Ops S Figures} {most places : ℕ} (E : Edition op m
             let up = u .1 in
             let y = used-size E s m h x (u .0) (u .1) in
             let d = p .3 (h .cache .once) in
-            let v = p .4 in
-            let r = h .cache .room in
-            emptied-arrives _ _ (recached E s m h ks (record { used = λ y i. h .cache .used y (p .2 y i); once = d .1; room = omega arith }))
-            x (lengthAt op s x) (u .0) (sym y) (omega arith) (d .0)
+            emptied-arrives _ _ (uncached E s m h z x ks p) x (lengthAt op s x) (u .0) (sym y) (omega arith) (d .0)
         go none p = rw (search-same E s m h sound z) (listed-arrives z z16 z8 (searchM m z) (find-fits (sizeM m) z (searched m z) 0))
 
     hand-arrives : (size : ℕ) → Served (hand op most places s size) (handOutM m size)

@@ -1,8 +1,8 @@
 -- BOUNDS for the code: what a sound state's readings keep to, so that no sum leaves its type and no index the heap. Conclusions speak of the state alone.
 --     found-fits      the chunk that a search finds: where it lies, its length, what in use becomes, how many were compared
 --     never-lost      a search on a sound state does not run out;  nowhere-short: nor does it compare more than a quarter of the words
---     cached-fits     a cached chunk;  release-fits: the free bytes on its two sides
---     live-fits       the offset of a live chunk's payload
+--     cached-fits     a cached chunk;  cached-held: beside what tasks hold;  release-fits: the free bytes on its two sides
+--     live-fits       the offset of a live chunk's payload;  live-held: its length is in use
 --     figures-fit     the word count and the figures
 -- Each for a state that shows a model, and (name with ᵇ) for one that the test says yes to. Assumes nothing.
 use mathlib.Core.Path.{_≡_, refl, sym, ap, _∙_, subst}
@@ -40,7 +40,8 @@ use Rattle.rules.specs.Machine.{Model, sizeM, searched}
 use Rattle.rules.specs.Sound.{Accepted, Shows}
 use Rattle.rules.specs.Test.{soundᵇ}
 use Rattle.rules.proofs.Store.{Edition}
-use Rattle.rules.proofs.Follow.{L, whole, few, search-same, met-free, met-size, used-size, left-there, live-same, live-is}
+use Rattle.rules.proofs.Follow.{L, whole, few, search-same, met-free, met-size, used-size, left-there, in-use-held, live-same, live-is, live-last}
+use Rattle.rules.proofs.LiveSums.{sum-has}
 use Rattle.rules.proofs.Decide.{sound-true}
 
 -- ---- sums of a layout
@@ -89,7 +90,7 @@ module _ {S : Type 0} (op : Ops S Figures) (s : S) where
     pub eights : lengthAt op s x % 8 ≡ 0
     pub even : (x - 6) % 2 ≡ 0
     pub inside : (x - 6) + lengthAt op s x / 4 < op .count s
-    pub room : op .rest s .inUse + lengthAt op s x ≤ 4 * (op .count s - 1)
+    pub room : op .rest s .committed + lengthAt op s x ≤ 4 * (op .count s - 1)
     pub counted : c ≤ op .count s / 4
 
   -- the cached chunk that link x names
@@ -99,7 +100,7 @@ module _ {S : Type 0} (op : Ops S Figures) (s : S) where
     pub eights : lengthAt op s x % 8 ≡ 0
     pub even : (x - 6) % 2 ≡ 0
     pub inside : (x - 6) + lengthAt op s x / 4 < op .count s
-    pub counted : lengthAt op s x ≤ op .rest s .inUse
+    pub counted : lengthAt op s x ≤ op .rest s .committed
 
   -- what is free on the two sides of n bytes at word w
   pub record ReleaseFits (w n : ℕ) : Type 0 where
@@ -118,7 +119,8 @@ module _ {S : Type 0} (op : Ops S Figures) (s : S) where
   pub record FiguresFit (most : ℕ) : Type 0 where
     pub accepted : Accepted most (op .count s)
     pub words : op .rest s .words ≡ op .count s
-    pub inUse : op .rest s .inUse ≤ op .rest s .peak
+    pub inUse : op .rest s .inUse ≤ op .rest s .committed
+    pub committed : op .rest s .committed ≤ op .rest s .peak
     pub peak : op .rest s .peak ≤ op .rest s .high
     pub high : op .rest s .high ≤ 4 * (op .count s - 1)
     pub eights : op .rest s .high % 8 ≡ 0
@@ -129,6 +131,9 @@ module _ {S : Type 0} {op : Ops S Figures} {most places : ℕ} (E : Edition op m
     figures-fit =
         let w : op .rest s .words ≡ m .figs .words = ap (λ (r : Figures). r .words) (h .figs) in
         let i : op .rest s .inUse ≡ m .figs .inUse = ap (λ (r : Figures). r .inUse) (h .figs) in
+        let k : op .rest s .committed ≡ m .figs .committed = ap (λ (r : Figures). r .committed) (h .figs) in
+        let j = in-use-held E s m h in
+        let d = h .right .committed in
         let p : op .rest s .peak ≡ m .figs .peak = ap (λ (r : Figures). r .peak) (h .figs) in
         let g : op .rest s .high ≡ m .figs .high = ap (λ (r : Figures). r .high) (h .figs) in
         let a = h .right .peak in
@@ -138,6 +143,7 @@ module _ {S : Type 0} {op : Ops S Figures} {most places : ℕ} (E : Edition op m
           accepted = h .accepted;
           words = w ∙ h .words;
           inUse = omega arith;
+          committed = omega arith;
           peak = omega arith;
           high = omega arith;
           eights = ap (λ (j : ℕ). j % 8) g
@@ -176,8 +182,8 @@ module _ {S : Type 0} {op : Ops S Figures} {most places : ℕ} (E : Edition op m
         let a = total-append (f .pre) (free n ∷ f .post) in
         let e : total (f .pre ++ free n ∷ f .post) ≡ 4 * (op .count s - 1) = sym (ap total (f .is)) ∙ h .fills in
         let u = free-room (f .pre) n (f .post) in
-        let v : m .figs .inUse ≡ usedSum (f .pre ++ free n ∷ f .post) = h .right .inUse ∙ ap usedSum (f .is) in
-        let g : op .rest s .inUse ≡ m .figs .inUse = ap (λ (r : Figures). r .inUse) (h .figs) in
+        let v : m .figs .committed ≡ usedSum (f .pre ++ free n ∷ f .post) = h .right .committed ∙ ap usedSum (f .is) in
+        let g : op .rest s .committed ≡ m .figs .committed = ap (λ (r : Figures). r .committed) (h .figs) in
         let ev : x - 6 ≡ total (f .pre) / 8 * 2 + 0 = omega arith in
         record {
           named = omega arith;
@@ -221,8 +227,8 @@ module _ {S : Type 0} {op : Ops S Figures} {most places : ℕ} (E : Edition op m
         let a = total-append (u .pre) (busy n ∷ u .post) in
         let e : total (u .pre ++ busy n ∷ u .post) ≡ 4 * (op .count s - 1) = sym (ap total (u .is)) ∙ h .fills in
         let v = busy-room (u .pre) n (u .post) in
-        let i : m .figs .inUse ≡ usedSum (u .pre ++ busy n ∷ u .post) = h .right .inUse ∙ ap usedSum (u .is) in
-        let g : op .rest s .inUse ≡ m .figs .inUse = ap (λ (r : Figures). r .inUse) (h .figs) in
+        let i : m .figs .committed ≡ usedSum (u .pre ++ busy n ∷ u .post) = h .right .committed ∙ ap usedSum (u .is) in
+        let g : op .rest s .committed ≡ m .figs .committed = ap (λ (r : Figures). r .committed) (h .figs) in
         let lt = left-there E (L E s m h) s (u .pre) n (u .post) x (u .byte) x6 lg tg in
         let at′ : rightOf (x - 6) (lengthAt op s x) ≡ (0 + total (u .pre) + n) / 4 = omega arith in
         let rt : rightFree op s (rightOf (x - 6) (lengthAt op s x)) ≡ freeHead (u .post) =
@@ -249,6 +255,19 @@ module _ {S : Type 0} {op : Ops S Figures} {most places : ℕ} (E : Edition op m
     pub cached-fits : (x : ℕ) → Mem x (op .rest s .cached) → CachedFits op s x
     cached-fits x i = cached-place x i .0
 
+    -- tasks hold it no more than the rest of what is committed
+    pub cached-held : (x : ℕ) → Mem x (op .rest s .cached) → op .rest s .inUse + lengthAt op s x ≤ op .rest s .committed
+    cached-held x i =
+        let j : Mem x (m .figs .cached) = subst (λ (r : Figures). Mem x (r .cached)) (h .figs) i in
+        let u = h .cache .used x j in
+        let y = used-size E s m h x (u .0) (u .1) in
+        let b = sum-has (λ (k : ℕ). usedAt (m .cs) (byteOf k)) x (m .figs .cached) j in
+        let o = in-use-held E s m h in
+        let d = h .right .committed in
+        let f : op .rest s .inUse ≡ m .figs .inUse = ap (λ (r : Figures). r .inUse) (h .figs) in
+        let g : op .rest s .committed ≡ m .figs .committed = ap (λ (r : Figures). r .committed) (h .figs) in
+        omega arith
+
     pub release-fits : (x : ℕ) → Mem x (op .rest s .cached) → ReleaseFits op s (x - 6) (lengthAt op s x)
     release-fits x i = cached-place x i .1
 
@@ -267,6 +286,13 @@ module _ {S : Type 0} {op : Ops S Figures} {most places : ℕ} (E : Edition op m
         let e : total (u .pre ++ busy (usedAt (m .cs) (p - 4)) ∷ u .post) ≡ 4 * (op .count s - 1) = sym (ap total (u .is)) ∙ h .fills in
         let p4 = v .3 in
         record { low = p4; eights = omega arith; inside = omega arith }
+
+    pub live-held : (sound : S → Bool) (p : ℕ) → live op places sound s p ≢ 0 → live op places sound s p ≤ op .rest s .inUse
+    live-held sound p q =
+        let e = live-same E sound s m h p in
+        let l = live-last E sound s m h p (λ r. q (e ∙ r)) in
+        let f : op .rest s .inUse ≡ m .figs .inUse = ap (λ (r : Figures). r .inUse) (h .figs) in
+        omega arith
 
     -- a live chunk's own header and neighbours, as of a cached one: with no cache place it is released at once
     pub live-place : (sound : S → Bool) (p : ℕ) → live op places sound s p ≢ 0
@@ -294,6 +320,12 @@ module _ {S : Type 0} {op : Ops S Figures} {most places : ℕ} (E : Edition op m
 
     pub release-fitsᵇ : (x : ℕ) → Mem x (op .rest s .cached) → ReleaseFits op s (x - 6) (lengthAt op s x)
     release-fitsᵇ = let h = sound-true E s ok in release-fits s (h .0) (h .1)
+
+    pub cached-heldᵇ : (x : ℕ) → Mem x (op .rest s .cached) → op .rest s .inUse + lengthAt op s x ≤ op .rest s .committed
+    cached-heldᵇ = let h = sound-true E s ok in cached-held s (h .0) (h .1)
+
+    pub live-heldᵇ : (sound : S → Bool) (p : ℕ) → live op places sound s p ≢ 0 → live op places sound s p ≤ op .rest s .inUse
+    live-heldᵇ = let h = sound-true E s ok in live-held s (h .0) (h .1)
 
     pub live-fitsᵇ : (sound : S → Bool) (p : ℕ) → live op places sound s p ≢ 0 → LiveFits op s p
     live-fitsᵇ = let h = sound-true E s ok in live-fits s (h .0) (h .1)

@@ -52,13 +52,15 @@ module _ {S : Type 0} (op : Ops S Figures) (places : ℕ) (sound : S → Bool) (
 
   -- TAKING BACK: 5, 4, or done
   pub back-cases : (p : ℕ) (P : Outcome S → Type 0) → (sound s ≡ false → P (says 5 0 0 s)) → (sound s ≡ true → live op places sound s p ≡ 0 → P (says 4 0 0 s))
-      → (sound s ≡ true → live op places sound s p ≢ 0 → P (says 0 0 0 (settled op places sound s (op .rest s .cached ++ nameOf (p - 4) ∷ [])))) → P
+      → (sound s ≡ true → live op places sound s p ≢ 0 → P
+      (says 0 0 0 (settled op places sound s (op .rest s .inUse - live op places sound s p) (op .rest s .cached ++ nameOf (p - 4) ∷ [])))) → P
       (takeBack op places sound s p)
   unfolding takeBack
   back-cases p P bad cold done = go (sound s) refl (eqb (live op places sound s p) 0) refl
     where
       go : (t : Bool) → sound s ≡ t → (v : Bool) → eqb (live op places sound s p) 0 ≡ v
-          → P (pick t (pick v (says 4 0 0 s) (says 0 0 0 (settled op places sound s (op .rest s .cached ++ nameOf (p - 4) ∷ [])))) (says 5 0 0 s))
+          → P (pick t (pick v (says 4 0 0 s) (says 0 0 0
+          (settled op places sound s (op .rest s .inUse - live op places sound s p) (op .rest s .cached ++ nameOf (p - 4) ∷ [])))) (says 5 0 0 s))
       go true e true f = cold e (eqb-true (live op places sound s p) 0 f)
       go true e false f = done e (eqb-false (live op places sound s p) 0 f)
       go false e v f = bad e
@@ -78,7 +80,7 @@ module _ (m : Model) where
 
   pub serveM-cases : (z : ℕ) (P : Outcome Model → Type 0)
       → ((x : ℕ) (ks : List ℕ) → Picked (sizeM m) z (m .figs .cached) (one x ks) → P
-      (says 0 (byteOf x + 4) 0 (record { cs = m .cs; orders = m .orders; figs = withCached (m .figs) ks })))
+      (says 0 (byteOf x + 4) 0 (record { cs = m .cs; orders = m .orders; figs = withCached (m .figs) (m .figs .inUse + sizeM m x) ks })))
       → (Picked (sizeM m) z (m .figs .cached) none → (x c : ℕ) → searchM m z ≡ at x c → P (says 0 (byteOf x + 4) c (tookM m x (sizeM m x) z)))
       → (Picked (sizeM m) z (m .figs .cached) none → (c : ℕ) → searchM m z ≡ nowhere c → P (says 3 0 c m))
       → P (fromCacheM m z (choose (sizeM m) z (m .figs .cached)))
@@ -94,10 +96,11 @@ module _ (m : Model) where
       served none p = listed p (searchM m z) refl
 
   pub backM-cases : (places p : ℕ) (P : Outcome Model → Type 0) → (liveM m p ≡ 0 → P (says 4 0 0 m))
-      → (liveM m p ≢ 0 → P (says 0 0 0 (settledM places m (m .figs .cached ++ nameOf (p - 4) ∷ [])))) → P (takeBackM places m p)
+      → (liveM m p ≢ 0 → P (says 0 0 0 (settledM places m (m .figs .inUse - liveM m p) (m .figs .cached ++ nameOf (p - 4) ∷ [])))) → P (takeBackM places m p)
   unfolding takeBackM
   backM-cases places p P cold done = go (eqb (liveM m p) 0) refl
     where
-      go : (v : Bool) → eqb (liveM m p) 0 ≡ v → P (pick v (says 4 0 0 m) (says 0 0 0 (settledM places m (m .figs .cached ++ nameOf (p - 4) ∷ []))))
+      go : (v : Bool) → eqb (liveM m p) 0 ≡ v → P
+          (pick v (says 4 0 0 m) (says 0 0 0 (settledM places m (m .figs .inUse - liveM m p) (m .figs .cached ++ nameOf (p - 4) ∷ []))))
       go true f = cold (eqb-true (liveM m p) 0 f)
       go false f = done (eqb-false (liveM m p) 0 f)

@@ -24,7 +24,7 @@ use Rattle.rules.specs.Test.{both, legalᵇ, calmᵇ, tagsᵇ, segᵇ, b
 use Rattle.rules.proofs.Named.{order-few}
 use Rattle.rules.specs.Rules.{Figures, byteOf, listed}
 use Rattle.rules.specs.Machine.{Model}
-use Rattle.rules.specs.Sound.{Under, CacheRight, FiguresRight, Shows, Sound}
+use Rattle.rules.specs.Sound.{Under, liveSum, CacheRight, FiguresRight, Shows, Sound}
 use Rattle.rules.proofs.Store.{Edition}
 use Rattle.rules.proofs.Follow.{whole, few, L, listed-true, listed-false}
 
@@ -175,10 +175,18 @@ tells-figures : (f : Figures) (b : ℕ) (cs : List Chunk) → Tells (figuresᵇ 
 unfolding figuresᵇ
 tells-figures f b cs =
     tells-map
-    (λ p. record { inUse = p .0; peak = p .1 .0; high = p .1 .1 .0; heap = p .1 .1 .1 .0; eights = p .1 .1 .1 .1 .0; ends = p .1 .1 .1 .1 .1 })
-    (λ r. (r .inUse, (r .peak, (r .high, (r .heap, (r .eights, r .ends))))))
-    (tells-and (tells-eq (f .inUse) (usedSum cs)) (tells-and (tells-le (f .inUse) (f .peak)) (tells-and (tells-le (f .peak) (f .high)) (tells-and (tells-le (f .high) b)
-    (tells-and (tells-eq (f .high % 8) 0) (tells-under (f .high) 0 cs))))))
+    (λ p. record {
+      inUse = p .0;
+      committed = p .1 .0;
+      peak = p .1 .1 .0;
+      high = p .1 .1 .1 .0;
+      heap = p .1 .1 .1 .1 .0;
+      eights = p .1 .1 .1 .1 .1 .0;
+      ends = p .1 .1 .1 .1 .1 .1;
+    })
+    (λ r. (r .inUse, (r .committed, (r .peak, (r .high, (r .heap, (r .eights, r .ends)))))))
+    (tells-and (tells-eq (f .inUse) (liveSum (f .cached) 0 cs)) (tells-and (tells-eq (f .committed) (usedSum cs)) (tells-and (tells-le (f .committed) (f .peak))
+    (tells-and (tells-le (f .peak) (f .high)) (tells-and (tells-le (f .high) b) (tells-and (tells-eq (f .high % 8) 0) (tells-under (f .high) 0 cs)))))))
 
 -- with the figures given, the test tells whether s shows m
 pub tells-shows : {S : Type 0} (op : Ops S Figures) (most places : ℕ) (s : S) (m : Model) → op .rest s ≡ m .figs

@@ -81,4 +81,4 @@ module _ {W : Width} (E : Lawful W) (most places : ℕ) (f : most + 6 ≤ W .lim
       shown (edition E most places f) (length ws) a (oneChunk (ops {R = Figures} W) (fresh ws) (4 * (length ws - 1))) (madeM (length ws))
       (made-whole L h o (fresh ws) fresh-rings) (refl, tt) refl refl
       (record { used = λ x m. absurd (List·Memᴰ·not-nil m); once = tt; room = omega arith })
-      (record { inUse = refl; peak = omega arith; high = omega arith; heap = omega arith; eights = refl; ends = (omega arith, tt) })
+      (record { inUse = refl; committed = refl; peak = omega arith; high = omega arith; heap = omega arith; eights = refl; ends = (omega arith, tt) })

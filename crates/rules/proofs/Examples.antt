@@ -68,8 +68,8 @@ pub record Computed : Type 0 where
   pub three-freed : (wordAt 33 sixth 0 ≡ 17) × (wordAt 33 sixth 8 ≡ 97) × (then 33 sixth .rest .cached ≡ 10 ∷ [])
   -- ask 40: 36, high water 80, peak 64
   pub forty : (answerOf (after base (made base 33) seventh) ≡ says 0 36 1) × (then 33 seventh .rest .high ≡ 80) × (then 33 seventh .rest .peak ≡ 64)
-  -- free 36: 32 at 0, in use 48
-  pub last-entry : (wordAt 33 eighth 0 ≡ 33) × (then 33 eighth .rest .inUse ≡ 48)
+  -- free 36: 32 at 0, shown 0, committed 48
+  pub last-entry : (wordAt 33 eighth 0 ≡ 33) × (then 33 eighth .rest .inUse ≡ 0) × (then 33 eighth .rest .committed ≡ 48)
   -- the prev half of word 13, inside the merged chunk, was written by unlinking the left neighbour
   pub left-first : (wordAt 17 (ask 12 ∷ ask 12 ∷ ask 12 ∷ give 20 ∷ give 36 ∷ []) 13 ≡ 10) ×
       (wordAt 17 (ask 12 ∷ ask 12 ∷ ask 12 ∷ give 20 ∷ give 36 ∷ give 4 ∷ []) 13 ≡ 0)
@@ -84,7 +84,7 @@ computed =
       whole-run = refl;
       three-freed = (refl, refl, refl);
       forty = (refl, refl, refl);
-      last-entry = (refl, refl);
+      last-entry = (refl, refl, refl);
       left-first =
           (refl, refl);
       cached-twice = refl;

@@ -19,7 +19,7 @@ use Rattle.rules.proofs.Bytes.{takeStep, releaseStep, take-words, relea
 use Rattle.rules.proofs.Store.{LinkStore, Edition}
 use Rattle.rules.proofs.Rings.{ring-once}
 use Rattle.rules.specs.Chunks.{Chunk, free, busy, total, Legal, Calm, taken, release, usedSum}
-use Rattle.rules.proofs.Chunks.{total-append, taken-calm, release-calm}
+use Rattle.rules.proofs.Chunks.{total-append, taken-calm, release-calm, release-legal}
 use Rattle.rules.specs.Exact.{slot, In, frees}
 use Rattle.rules.specs.Tags.{Tags}
 use Rattle.rules.proofs.Tags.{lastUsed, tags-back}
@@ -40,15 +40,18 @@ use Rattle.rules.proofs.Named.{chunks-few, size-at, byte-at, size-same,
 use Rattle.rules.specs.Rules.{Figures, Outcome, says, byteOf, nameOf, Chosen, none, one, behind, serves, choose, listed, withCached, counted, released}
 use Rattle.rules.specs.Rules.{firstFit, fromList, fromCache, serve, handOut, live, settled, takeBack}
 use Rattle.rules.specs.Machine.{Model, sizeM, tookM, searched, searchM, fromListM, fromCacheM, handOutM, liveM, gaveM, settledM, takeBackM}
-use Rattle.rules.specs.Sound.{Accepted, Under, CacheRight, FiguresRight, Shows}
+use Rattle.rules.specs.Sound.{Accepted, Under, liveSum, CacheRight, FiguresRight, Shows}
+use Rattle.rules.proofs.LiveSums.{sumBy, heldSum, held-same, held-last, live-and-held}
 use Rattle.rules.proofs.LayoutFacts.{release-used, taken-used, taken-there, used-len, release-sums, taken-sums, under-more, under-release, under-taken}
 
 -- ---- the cache, as a list
 
--- what was chosen serves, is one of ks, and the others are the rest of ks, all different from it; where none is chosen none serves
+-- what was chosen serves, is one of ks, and the others are the rest of ks, all different from it, and all sums say so; where none is chosen none serves
 abbrev pub Picked : (ℕ → ℕ) → ℕ → List ℕ → Chosen → Type 0
 Picked size z ks none = (y : ℕ) → Mem y ks → serves (size y) z ≡ false
-Picked size z ks (one x xs) = (serves (size x) z ≡ true) × Mem x ks × ((y : ℕ) → Mem y xs → Mem y ks) × (Distinct ks → Distinct (x ∷ xs)) × (length xs < length ks)
+Picked size z ks (one x xs) =
+    (serves (size x) z ≡ true) × Mem x ks × ((y : ℕ) → Mem y xs → Mem y ks) × (Distinct ks → Distinct (x ∷ xs)) × (length xs < length ks)
+    × ((f : ℕ → ℕ) → sumBy f ks ≡ f x + sumBy f xs)
 
 pub choose-picked : (size : ℕ → ℕ) (z : ℕ) (ks : List ℕ) → Picked size z ks (choose size z ks)
 unfolding choose
@@ -68,10 +71,16 @@ choose-picked size z (k ∷ ks) = go (serves (size k) z) refl (choose size z ks)
     all e f y (List·Memᴰ·tail m) = f y m
 
     go : (t : Bool) → serves (size k) z ≡ t → (r : Chosen) → Picked size z ks r → Picked size z (k ∷ ks) (pick t (one k ks) (behind k r))
-    go true e r p = (e, List·Memᴰ·head refl, λ y m. List·Memᴰ·tail m, λ d. d, omega arith)
+    go true e r p = (e, List·Memᴰ·head refl, λ y m. List·Memᴰ·tail m, λ d. d, omega arith, λ f. refl)
     go false e none p = all e p
-    go false e (one x xs) p = let q = p .4 in
-        (p .0, List·Memᴰ·tail (p .1), wide x xs (p .2), λ d. (apart x xs (p .1) (d .0) (p .3 (d .1) .0), (λ m. d .0 (p .2 k m), p .3 (d .1) .1)), omega arith)
+    go false e (one x xs) p = let q = p .4 in (
+      p .0,
+      List·Memᴰ·tail (p .1),
+      wide x xs (p .2),
+      λ d. (apart x xs (p .1) (d .0) (p .3 (d .1) .0), (λ m. d .0 (p .2 k m), p .3 (d .1) .1)),
+      omega arith,
+      λ f. let q = p .5 f in omega arith,
+    )
 
 pub choose-same : (f g : ℕ → ℕ) (z : ℕ) (ks : List ℕ) → ((x : ℕ) → Mem x ks → f x ≡ g x) → choose f z ks ≡ choose g z ks
 unfolding choose
@@ -292,15 +301,49 @@ module _ {S : Type 0} {op : Ops S Figures} {most places : ℕ} (E : Edition op m
         ap (λ (r : Figures). choose (lengthAt op s) z (r .cached)) (h .figs)
         ∙ choose-same (lengthAt op s) (sizeM m) z (m .figs .cached) (λ x i. let u = h .cache .used x i in used-same x (u .0) (u .1))
 
-    -- only the cache changes
-    pub recached : (ks : List ℕ) → CacheRight places ks (m .cs) → Sh (op .setRest s (withCached (op .rest s) ks)) (model (m .cs) (m .orders) (withCached (m .figs) ks))
-    recached ks c =
+    -- live and cached lengths, of the chunks as they are
+    pub live-held : (ks : List ℕ) → ((x : ℕ) → Mem x ks → (6 ≤ x) × (0 < usedAt (m .cs) (byteOf x))) → Distinct ks
+        → liveSum ks 0 (m .cs) + heldSum ks (m .cs) ≡ usedSum (m .cs)
+    live-held ks us d = live-and-held ks (m .cs) (h .legal) d us
+
+    pub in-use-held : m .figs .inUse + heldSum (m .figs .cached) (m .cs) ≡ usedSum (m .cs)
+    in-use-held = let e = live-held (m .figs .cached) (h .cache .used) (h .cache .once) in let i = h .right .inUse in omega arith
+
+    -- only the cache changes, and with it what tasks hold
+    pub recached : (i : ℕ) (ks : List ℕ) → CacheRight places ks (m .cs) → i ≡ liveSum ks 0 (m .cs)
+        → Sh (op .setRest s (withCached (op .rest s) i ks)) (model (m .cs) (m .orders) (withCached (m .figs) i ks))
+    recached i ks c e =
         rw (h .figs)
-        (shown (op .count s) (h .accepted) (op .setRest s (withCached (m .figs) ks)) (model (m .cs) (m .orders) (withCached (m .figs) ks))
-        (whole-rest L s (withCached (m .figs) ks) (m .orders) (m .cs) whole) (h .calm)
-        (L .rest-setRest s (withCached (m .figs) ks) (E .fit (op .count s) (h .accepted) (withCached (m .figs) ks) (c .room) (λ x i. (c .used x i) .0)))
+        (shown (op .count s) (h .accepted) (op .setRest s (withCached (m .figs) i ks)) (model (m .cs) (m .orders) (withCached (m .figs) i ks))
+        (whole-rest L s (withCached (m .figs) i ks) (m .orders) (m .cs) whole) (h .calm)
+        (L .rest-setRest s (withCached (m .figs) i ks) (E .fit (op .count s) (h .accepted) (withCached (m .figs) i ks) (c .room) (λ x i. (c .used x i) .0)))
         (h .words) c
-        (record { inUse = h .right .inUse; peak = h .right .peak; high = h .right .high; heap = h .right .heap; eights = h .right .eights; ends = h .right .ends }))
+        (record {
+          inUse = e;
+          committed = h .right .committed;
+          peak = h .right .peak;
+          high = h .right .high;
+          heap = h .right .heap;
+          eights = h .right .eights;
+          ends = h .right .ends;
+        }))
+
+    -- a cached chunk is handed out: tasks hold its length too
+    pub uncached : (z x : ℕ) (ks : List ℕ) → Picked (sizeM m) z (m .figs .cached) (one x ks)
+        → Sh (op .setRest s (withCached (op .rest s) (op .rest s .inUse + lengthAt op s x) ks)) (model (m .cs) (m .orders) (withCached (m .figs) (m .figs .inUse + sizeM m x) ks))
+    uncached z x ks p =
+        let u = h .cache .used x (p .1) in
+        let y = used-size x (u .0) (u .1) in
+        let l = used-len (m .cs) (byteOf x) (h .legal) (u .1) in
+        let o = in-use-held in
+        let t = p .5 (λ (k : ℕ). usedAt (m .cs) (byteOf k)) in
+        let d = p .3 (h .cache .once) .1 in
+        let us : (y : ℕ) → Mem y ks → (6 ≤ y) × (0 < usedAt (m .cs) (byteOf y)) = λ y i. h .cache .used y (p .2 y i) in
+        let r = live-held ks us d in
+        let f : op .rest s .inUse ≡ m .figs .inUse = ap (λ (r : Figures). r .inUse) (h .figs) in
+        let e : m .figs .inUse + sizeM m x ≡ op .rest s .inUse + lengthAt op s x = omega arith in
+        subst (λ (v : ℕ). Sh (op .setRest s (withCached (op .rest s) v ks)) (model (m .cs) (m .orders) (withCached (m .figs) (m .figs .inUse + sizeM m x) ks))) e
+        (recached (m .figs .inUse + sizeM m x) ks (let q = p .4 in let v = h .cache .room in record { used = us; once = d; room = omega arith }) (omega arith))
 
     -- the payload of a used chunk is emptied: the model stays
     pub emptied-shows : (x n : ℕ) → 6 ≤ x → usedAt (m .cs) (byteOf x) ≡ n → 0 < n → Sh (emptied op s (x - 6) n) m
@@ -336,7 +379,8 @@ module _ {S : Type 0} {op : Ops S Figures} {most places : ℕ} (E : Edition op m
       let fl = h .fills in
       let ta = total-append pre (free n ∷ post) in
       let su = taken-sums pre n post z in
-      let iu = h .right .inUse in
+      let cu = h .right .committed in
+      let iu = in-use-held s (model (pre ++ free n ∷ post) O f) h in
       let un : Under (g .high) 0 (taken (pre ++ free n ∷ post) (length pre) z) =
       under-taken (g .high) 0 pre n post z (under-more (f .high) (g .high) 0 (pre ++ free n ∷ post) (omega arith) (h .right .ends)) (omega arith) in
       let top = sum-under (g .high) (taken (pre ++ free n ∷ post) (length pre) z) un in
@@ -346,16 +390,19 @@ module _ {S : Type 0} {op : Ops S Figures} {most places : ℕ} (E : Edition op m
         once = h .cache .once;
         room = h .cache .room;
       } in
+      let hs = held-same (f .cached) (taken (pre ++ free n ∷ post) (length pre) z) (pre ++ free n ∷ post)
+      (λ k q. taken-used pre n post z (byteOf k) (h .legal) z16 (let v = h .cache .used k q .1 in omega arith)) in
+      let wt = take-refines L classOf class-below s O pre n post z z16 z8 (h .calm) w in
+      let lh = live-and-held (f .cached) (taken (pre ++ free n ∷ post) (length pre) z) (wt .legal) (c .once) (c .used) in
       rw (take-words op s (x - 6) (lengthAt op s x) z (omega arith), y, b, i, j, h .figs)
       (shown (op .count s) a (op .setRest (takeStep op classOf s (0 + total pre) n z) g)
       (model (taken (pre ++ free n ∷ post) (length pre) z) (takenOrders classOf O (0 + total pre) n z) g)
-      (whole-rest L (takeStep op classOf s (0 + total pre) n z) g (takenOrders classOf O (0 + total pre) n z) (taken (pre ++ free n ∷ post) (length pre) z)
-      (take-refines L classOf class-below s O pre n post z z16 z8 (h .calm) w))
+      (whole-rest L (takeStep op classOf s (0 + total pre) n z) g (takenOrders classOf O (0 + total pre) n z) (taken (pre ++ free n ∷ post) (length pre) z) wt)
       (taken-calm (pre ++ free n ∷ post) (length pre) z (h .calm) (free-seam pre n post))
       (L .rest-setRest (takeStep op classOf s (0 + total pre) n z) g (E .fit (op .count s) a g (h .cache .room) (λ k q. (h .cache .used k q) .0)))
       (h .words) c
       (let hp = h .right .peak in let hh = h .right .high in let hb = h .right .heap in let h8 = h .right .eights in
-      record { inUse = omega arith; peak = omega arith; high = omega arith; heap = omega arith; eights = omega arith; ends = un }))
+      record { inUse = omega arith; committed = omega arith; peak = omega arith; high = omega arith; heap = omega arith; eights = omega arith; ends = un }))
     where
       free-seam : (pre : List Chunk) (n : ℕ) (post : List Chunk) → (getD (pre ++ free n ∷ post) (length pre) (busy 0)) .used ≡ false
       free-seam pre n post = ap (λ (c : Chunk). c .used) (getD-append-seam pre (free n) post (busy 0))
@@ -397,14 +444,14 @@ module _ {S : Type 0} {op : Ops S Figures} {most places : ℕ} (E : Edition op m
       (omega arith, omega arith)
 
   -- RELEASED, the chunks ks staying cached
-  gave : (s : S) (pre : List Chunk) (n : ℕ) (post : List Chunk) (O : ℕ → List ℕ) (f : Figures) (k : ℕ) (ks : List ℕ) → byteOf k ≡ total pre → 6 ≤ k
+  gave : (s : S) (pre : List Chunk) (n : ℕ) (post : List Chunk) (O : ℕ → List ℕ) (f : Figures) (k v : ℕ) (ks : List ℕ) → byteOf k ≡ total pre → 6 ≤ k
       → 0 < usedAt (pre ++ busy n ∷ post) (byteOf k) → ((x : ℕ) → Mem x ks → (6 ≤ x) × (0 < usedAt (pre ++ busy n ∷ post) (byteOf x))) → Distinct (k ∷ ks)
-      → length ks ≤ places
+      → length ks ≤ places → v ≡ liveSum (k ∷ ks) 0 (pre ++ busy n ∷ post)
       → Sh s (model (pre ++ busy n ∷ post) O f)
-      → Sh (op .setRest (releaseChunk op s (k - 6) (lengthAt op s k)) (released (op .rest s) ks (lengthAt op s k)))
-      (gaveM (model (pre ++ busy n ∷ post) O f) ks (byteOf k) (lenAt (pre ++ busy n ∷ post) (byteOf k)))
+      → Sh (op .setRest (releaseChunk op s (k - 6) (lengthAt op s k)) (released (op .rest s) v ks (lengthAt op s k)))
+      (gaveM (model (pre ++ busy n ∷ post) O f) v ks (byteOf k) (lenAt (pre ++ busy n ∷ post) (byteOf k)))
   unfolding gaveM
-  gave s pre n post O f k ks e k6 up us d rm h =
+  gave s pre n post O f k v ks e k6 up us d rm ve h =
       let w = whole s (model (pre ++ busy n ∷ post) O f) h in
       let a = h .accepted in
       let L = E .store (op .count s) a in
@@ -415,9 +462,9 @@ module _ {S : Type 0} {op : Ops S Figures} {most places : ℕ} (E : Edition op m
       let y : lengthAt op s k ≡ n = used-same s (model (pre ++ busy n ∷ post) O f) h k k6 up ∙ j in
       let i = index-at pre (busy n) post (0 + total pre) lp (omega arith) in
       let j′ = len-at pre (busy n) post (0 + total pre) lp (omega arith) in
-      let g : Figures = released f ks n in
+      let g : Figures = released f v ks n in
       let su = release-sums pre n post in
-      let iu = h .right .inUse in
+      let cu = h .right .committed in
       let lt = left-there L s pre n post k e k6 (h .legal) (h .tags) in
       let c : CacheRight places ks cs = record {
         used = λ x q. let u = us x q in
@@ -425,6 +472,10 @@ module _ {S : Type 0} {op : Ops S Figures} {most places : ℕ} (E : Edition op m
         once = d .1;
         room = rm;
       } in
+      let hs = held-same ks cs (pre ++ busy n ∷ post) (λ x q. release-used pre n post (byteOf x) (h .legal) (other x q (us x q .0))) in
+      let lh = live-and-held ks cs (release-legal (pre ++ busy n ∷ post) (length pre) (h .legal)) (c .once) (c .used) in
+      let lk = live-and-held (k ∷ ks) (pre ++ busy n ∷ post) (h .legal) d (own k6 up us) in
+      let nu : n ≡ usedAt (pre ++ busy n ∷ post) (byteOf k) = sym j ∙ used-len (pre ++ busy n ∷ post) (byteOf k) (h .legal) up in
       rw (release-words op s (k - 6) (lengthAt op s k) (omega arith) (lt .1), y, b, i, j′, take-append-seam pre (busy n ∷ post), drop-seam pre (busy n) post, h .figs)
       (shown (op .count s) a (op .setRest (releaseStep op classOf s (0 + total pre) n) g)
       (model cs (mergedOrders classOf O (0 + total pre - freeLast 0 pre) (freeLast 0 pre) n (freeHead post)) g)
@@ -436,6 +487,7 @@ module _ {S : Type 0} {op : Ops S Figures} {most places : ℕ} (E : Edition op m
       (let hp = h .right .peak in
       record {
         inUse = omega arith;
+        committed = omega arith;
         peak = omega arith;
         high = h .right .high;
         heap = h .right .heap;
@@ -444,32 +496,37 @@ module _ {S : Type 0} {op : Ops S Figures} {most places : ℕ} (E : Edition op m
             (pre ++ busy n ∷ post) (length pre) (h .right .ends);
       }))
     where
+      own : 6 ≤ k → 0 < usedAt (pre ++ busy n ∷ post) (byteOf k) → ((x : ℕ) → Mem x ks → (6 ≤ x) × (0 < usedAt (pre ++ busy n ∷ post) (byteOf x)))
+          → (x : ℕ) → Mem x (k ∷ ks) → (6 ≤ x) × (0 < usedAt (pre ++ busy n ∷ post) (byteOf x))
+      own a b c x (List·Memᴰ·head q) = subst (λ (y : ℕ). (6 ≤ y) × (0 < usedAt (pre ++ busy n ∷ post) (byteOf y))) (sym q) (a, b)
+      own a b c x (List·Memᴰ·tail i) = c x i
+
       other : (x : ℕ) → Mem x ks → 6 ≤ x → byteOf x ≢ total pre
       other x q x6 v = d .0 (subst (λ (t : ℕ). Mem t ks) (let r : x ≡ k = omega arith in r) q)
 
   module _ (sound : S → Bool) (s : S) (m : Model) (h : Sh s m) where
-    pub settles : (ks : List ℕ) → ((x : ℕ) → Mem x ks → (6 ≤ x) × (0 < usedAt (m .cs) (byteOf x))) → Distinct ks → length ks ≤ suc places
-        → Sh (settled op places sound s ks) (settledM places m ks)
+    pub settles : (v : ℕ) (ks : List ℕ) → ((x : ℕ) → Mem x ks → (6 ≤ x) × (0 < usedAt (m .cs) (byteOf x))) → Distinct ks → length ks ≤ suc places
+        → v ≡ liveSum ks 0 (m .cs) → Sh (settled op places sound s v ks) (settledM places m v ks)
     unfolding settled
-    settles [] us d q = h
-    settles (k ∷ ks) us d q = go (leb (length (k ∷ ks)) places) refl
+    settles v [] us d q ve = h
+    settles v (k ∷ ks) us d q ve = go (leb (length (k ∷ ks)) places) refl
       where
         go : (t : Bool) → leb (length (k ∷ ks)) places ≡ t
-            → Sh (pick t (op .setRest s (withCached (op .rest s) (k ∷ ks)))
-            (op .setRest (releaseChunk op s (k - 6) (lengthAt op s k)) (released (op .rest s) ks (lengthAt op s k))))
-            (pick t (model (m .cs) (m .orders) (withCached (m .figs) (k ∷ ks))) (gaveM m ks (byteOf k) (sizeM m k)))
-        go true e = recached s m h (k ∷ ks) (record { used = us; once = d; room = leb-true (length (k ∷ ks)) places e })
+            → Sh (pick t (op .setRest s (withCached (op .rest s) v (k ∷ ks)))
+            (op .setRest (releaseChunk op s (k - 6) (lengthAt op s k)) (released (op .rest s) v ks (lengthAt op s k))))
+            (pick t (model (m .cs) (m .orders) (withCached (m .figs) v (k ∷ ks))) (gaveM m v ks (byteOf k) (sizeM m k)))
+        go true e = recached s m h v (k ∷ ks) (record { used = us; once = d; room = leb-true (length (k ∷ ks)) places e }) ve
         go false e =
             let p = us k (List·Memᴰ·head refl) in
             let n = usedAt (m .cs) (byteOf k) in
             let u = used-at (m .cs) (byteOf k) (let v = p .1 in omega arith) in
-            subst (λ cs. Sh s (model cs (m .orders) (m .figs)) → ((x : ℕ) → Mem x (k ∷ ks) → (6 ≤ x) × (0 < usedAt cs (byteOf x)))
-            → Sh (op .setRest (releaseChunk op s (k - 6) (lengthAt op s k)) (released (op .rest s) ks (lengthAt op s k)))
-            (gaveM (model cs (m .orders) (m .figs)) ks (byteOf k) (lenAt cs (byteOf k))))
+            subst (λ cs. Sh s (model cs (m .orders) (m .figs)) → ((x : ℕ) → Mem x (k ∷ ks) → (6 ≤ x) × (0 < usedAt cs (byteOf x))) → v ≡ liveSum (k ∷ ks) 0 cs
+            → Sh (op .setRest (releaseChunk op s (k - 6) (lengthAt op s k)) (released (op .rest s) v ks (lengthAt op s k)))
+            (gaveM (model cs (m .orders) (m .figs)) v ks (byteOf k) (lenAt cs (byteOf k))))
             (sym (u .is))
-            (λ g v. gave s (u .pre) n (u .post) (m .orders) (m .figs) k ks (u .byte) (p .0) ((v k (List·Memᴰ·head refl)) .1) (λ x i. v x (List·Memᴰ·tail i)) d
-            (omega arith) g)
-            h us
+            (λ g w we. gave s (u .pre) n (u .post) (m .orders) (m .figs) k v ks (u .byte) (p .0) ((w k (List·Memᴰ·head refl)) .1) (λ x i. w x (List·Memᴰ·tail i)) d
+            (omega arith) we g)
+            h us ve
 
     -- HANDING OUT from a list
     pub lists-follow : (z : ℕ) → 16 ≤ z → z % 8 ≡ 0 → (r : Found) → Fits (sizeM m) z (searched m z) r → F (fromList op places sound s z r) (fromListM m z r)
@@ -503,10 +560,7 @@ module _ {S : Type 0} {op : Ops S Figures} {most places : ℕ} (E : Edition op m
               let u = h .cache .used x (p .1) in
               let up = u .1 in
               let y = used-size s m h x (u .0) (u .1) in
-              emptied-shows _ _
-              (recached s m h ks (let q = p .4 in let v = h .cache .room in
-              record { used = λ y i. h .cache .used y (p .2 y i); once = p .3 (h .cache .once) .1; room = omega arith }))
-              x (lengthAt op s x) (u .0) (sym y) (omega arith);
+              emptied-shows _ _ (uncached s m h z x ks p) x (lengthAt op s x) (u .0) (sym y) (omega arith);
         }
         go none p =
             rw (search-same s m h sound z) (lists-follow z z16 z8 (searchM m z) (find-fits (sizeM m) z (searched m z) 0))
@@ -544,13 +598,44 @@ module _ {S : Type 0} {op : Ops S Figures} {most places : ℕ} (E : Edition op m
             let b = u .byte in
             (omega arith, omega arith, listed-false (nameOf (p - 4)) (m .figs .cached) g, leb-true 4 p e)
 
+    pub live-len : (p : ℕ) → liveM m p ≢ 0 → liveM m p ≡ usedAt (m .cs) (p - 4)
+    unfolding liveM
+    live-len p = go (leb 4 p) (listed (nameOf (p - 4)) (m .figs .cached))
+      where
+        go : (t v : Bool) → pick t (pick v 0 (usedAt (m .cs) (p - 4))) 0 ≢ 0 → pick t (pick v 0 (usedAt (m .cs) (p - 4))) 0 ≡ usedAt (m .cs) (p - 4)
+        go true true k = absurd (k refl)
+        go true false k = refl
+        go false v k = absurd (k refl)
+
+    -- the cached ones and a live one
+    pub snoc-used : (p : ℕ) → liveM m p ≢ 0 → (x : ℕ) → Mem x (m .figs .cached ++ nameOf (p - 4) ∷ []) → (6 ≤ x) × (0 < usedAt (m .cs) (byteOf x))
+    snoc-used p k x i = go (List·Memᴰ·append-cases (m .figs .cached) i) (live-is p k)
+      where
+        go : Mem x (m .figs .cached) ⊎ Mem x (nameOf (p - 4) ∷ []) → (byteOf (nameOf (p - 4)) ≡ p - 4) × (0 < usedAt (m .cs) (p - 4)) × (Mem (nameOf (p - 4)) (m .figs .cached) → ⊥) × (4 ≤ p)
+            → (6 ≤ x) × (0 < usedAt (m .cs) (byteOf x))
+        go (inl j) v = h .cache .used x j
+        go (inr j) v =
+            let q = List·Memᴰ·eq-of-singleton j in
+            (omega arith, subst (λ (t : ℕ). 0 < usedAt (m .cs) t) (sym (ap byteOf q ∙ v .0)) (v .1))
+
+    -- its length moves from what tasks hold to the cache
+    pub live-last : (p : ℕ) → liveM m p ≢ 0 → liveSum (m .figs .cached ++ nameOf (p - 4) ∷ []) 0 (m .cs) + liveM m p ≡ m .figs .inUse
+    live-last p k =
+        let v = live-is p k in
+        let r = live-held s m h (m .figs .cached ++ nameOf (p - 4) ∷ []) (snoc-used p k) (distinct-snoc (m .figs .cached) (nameOf (p - 4)) (h .cache .once) (v .2)) in
+        let l = held-last (m .figs .cached) (nameOf (p - 4)) (m .cs) in
+        let o = in-use-held s m h in
+        let b : usedAt (m .cs) (byteOf (nameOf (p - 4))) ≡ usedAt (m .cs) (p - 4) = ap (usedAt (m .cs)) (v .0) in
+        let n = live-len p k in
+        omega arith
+
     pub takeBack-follows : sound s ≡ true → (p : ℕ) → F (takeBack op places sound s p) (takeBackM places m p)
     unfolding takeBack takeBackM
     takeBack-follows ok p = rw (ok, live-same p, h .figs) (go (eqb (liveM m p) 0) refl)
       where
         go : (t : Bool) → eqb (liveM m p) 0 ≡ t
-            → F (pick t (says 4 0 0 s) (says 0 0 0 (settled op places sound s (m .figs .cached ++ nameOf (p - 4) ∷ []))))
-            (pick t (says 4 0 0 m) (says 0 0 0 (settledM places m (m .figs .cached ++ nameOf (p - 4) ∷ []))))
+            → F (pick t (says 4 0 0 s) (says 0 0 0 (settled op places sound s (m .figs .inUse - liveM m p) (m .figs .cached ++ nameOf (p - 4) ∷ []))))
+            (pick t (says 4 0 0 m) (says 0 0 0 (settledM places m (m .figs .inUse - liveM m p) (m .figs .cached ++ nameOf (p - 4) ∷ []))))
         go true e = record { number = refl; value = refl; compared = refl; after = h }
         go false e =
             let v = live-is p (eqb-false (liveM m p) 0 e) in
@@ -558,15 +643,9 @@ module _ {S : Type 0} {op : Ops S Figures} {most places : ℕ} (E : Edition op m
               number = refl;
               value = refl;
               compared = refl;
-              after = settles (m .figs .cached ++ nameOf (p - 4) ∷ [])
-                  (λ x i. both x (List·Memᴰ·append-cases (m .figs .cached) i) (v .0) (v .1))
+              after = settles (m .figs .inUse - liveM m p) (m .figs .cached ++ nameOf (p - 4) ∷ [])
+                  (snoc-used p (eqb-false (liveM m p) 0 e))
                   (distinct-snoc (m .figs .cached) (nameOf (p - 4)) (h .cache .once) (v .2))
-                  (let y = length-append (m .figs .cached) (nameOf (p - 4) ∷ []) in let z = h .cache .room in omega arith);
+                  (let y = length-append (m .figs .cached) (nameOf (p - 4) ∷ []) in let z = h .cache .room in omega arith)
+                  (let l = live-last p (eqb-false (liveM m p) 0 e) in omega arith);
             }
-          where
-            both : (x : ℕ) → Mem x (m .figs .cached) ⊎ Mem x (nameOf (p - 4) ∷ []) → byteOf (nameOf (p - 4)) ≡ p - 4 → 0 < usedAt (m .cs) (p - 4)
-                → (6 ≤ x) × (0 < usedAt (m .cs) (byteOf x))
-            both x (inl i) a b = h .cache .used x i
-            both x (inr i) a b =
-                let q = List·Memᴰ·eq-of-singleton i in
-                (omega arith, subst (λ (t : ℕ). 0 < usedAt (m .cs) t) (sym (ap byteOf q ∙ a)) b)

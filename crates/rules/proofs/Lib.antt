@@ -25,6 +25,7 @@ pub mod KeepLive
 pub mod Enough
 pub mod Sums
 pub mod LayoutFacts
+pub mod LiveSums
 pub mod Follow
 pub mod Decide
 pub mod Editions

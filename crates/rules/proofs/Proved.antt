@@ -24,6 +24,7 @@ use Rattle.rules.proofs.Demands.{hand-numbers, back-numbers, hand-refus
 use Rattle.rules.proofs.Demands.{back-sound, hand-fine, back-fine, hand-damaged, back-damaged, noFit-exact, notLive-exact, position, compared-small}
 use Rattle.rules.proofs.Demands.{compared-small-refused, compared-large-refused}
 use Rattle.rules.proofs.Runs.{runs-agree, run-follows, payload-kept}
+use Rattle.rules.proofs.Bounds.{figures-fit}
 use Rattle.rules.proofs.Arrival.{arrives-empty, alike-at-handout}
 
 pub demands : {S : Type 0} {op : Ops S Figures} {most places : ℕ} → Edition op most places → Demands op most places
@@ -34,6 +35,7 @@ demands {op = op} {most = most} {places = places} E = record {
   tested = λ s. (sound-true E s, true-sound E s);
   unique = λ s m n h g. (layout-unique E s m n h g, orders-unique E s m n h g, figures-unique E s m n h g);
   kept = (hand-sound E, back-sound E);
+  ordered = λ s h. let f = figures-fit E s (h .0) (h .1) in (f .inUse, f .committed, f .peak);
   zero = hand-zero op most places;
   large = hand-large op most places;
   damaged = (

@@ -42,7 +42,7 @@ use Rattle.rules.specs.Rules.{settled, takeBack}
 use Rattle.rules.specs.Machine.{Model, Request, ask, give, callM, sizeM, searched, searchM, liveM, gaveM, settledM, takeBackM, madeM}
 use Rattle.rules.specs.Sound.{Accepted, Shows}
 use Rattle.rules.proofs.Store.{Edition}
-use Rattle.rules.proofs.Follow.{Follows, shown, whole, L, search-same, met-free, used-size, left-there, live-same, live-is, r16, r8}
+use Rattle.rules.proofs.Follow.{Follows, shown, whole, L, search-same, met-free, used-size, left-there, live-same, snoc-used, r16, r8}
 use Rattle.rules.proofs.Follow.{Picked, choose-picked, choose-cached, portion-least, portion-le}
 use Rattle.rules.proofs.Bounds.{cached-fits}
 use Rattle.rules.proofs.Decide.{true-sound, layout-unique}
@@ -170,8 +170,9 @@ module _ {S : Type 0} {op : Ops S Figures} {most places : ℕ} (E : Edition op m
         served (one x ks) p =
             let c = cached-fits E s m h x (subst (λ (f : Figures). Mem x (f .cached)) (sym (h .figs)) (p .1)) in
             let n16 = c .least in
-            emptied-out (L E s m h) (op .setRest s (withCached (op .rest s) ks)) (x - 6) (lengthAt op s x) i (omega arith) (cached-out l x (p .1))
-            ∙ L E s m h .word-setRest s (withCached (op .rest s) ks) i
+            let g : Figures = withCached (op .rest s) (op .rest s .inUse + lengthAt op s x) ks in
+            emptied-out (L E s m h) (op .setRest s g) (x - 6) (lengthAt op s x) i (omega arith) (cached-out l x (p .1))
+            ∙ L E s m h .word-setRest s g i
         served none p =
             rw (search-same E s m h (soundᵇ op most places) (roundedOf size))
             (list (searchM m (roundedOf size)) (find-fits (sizeM m) (roundedOf size) (searched m (roundedOf size)) 0))
@@ -185,10 +186,10 @@ module _ {S : Type 0} {op : Ops S Figures} {most places : ℕ} (E : Edition op m
             rw (choose-cached E s m h (roundedOf size))
             (served (choose (sizeM m) (roundedOf size) (m .figs .cached)) (choose-picked (sizeM m) (roundedOf size) (m .figs .cached)))
 
-    gave-keeps : (k : ℕ) (ks : List ℕ) (r : Figures) → 6 ≤ k → 0 < usedAt (m .cs) (byteOf k) → Payload (m .cs) i → Payload (gaveM m ks (byteOf k) (sizeM m k) .cs) i
+    gave-keeps : (k v : ℕ) (ks : List ℕ) (r : Figures) → 6 ≤ k → 0 < usedAt (m .cs) (byteOf k) → Payload (m .cs) i → Payload (gaveM m v ks (byteOf k) (sizeM m k) .cs) i
         → op .word (op .setRest (releaseChunk op s (k - 6) (lengthAt op s k)) r) i ≡ op .word s i
     unfolding gaveM
-    gave-keeps k ks r k6 up p p″ =
+    gave-keeps k v ks r k6 up p p″ =
         let n = usedAt (m .cs) (byteOf k) in
         let u = used-at (m .cs) (byteOf k) (omega arith) in
         let w = subst (λ cs. Whole (L E s m h) classOf class-below s (m .orders) cs) (u .is) (whole E s m h) in
@@ -209,34 +210,29 @@ module _ {S : Type 0} {op : Ops S Figures} {most places : ℕ} (E : Edition op m
         (payload-off (L E s m h) classOf class-below (u .pre ++ busy n ∷ u .post) i (w .legal) (subst (λ ds. Payload ds i) (u .is) p))
         (shape-out (L E s m h) classOf class-below s n _ _ _ i (shape (L E s m h) classOf class-below s n (u .pre) (u .post) c lq) (subst (λ ds. Payload ds i) q p″))
 
-    settled-keeps : (ks : List ℕ) → ((x : ℕ) → Mem x ks → (6 ≤ x) × (0 < usedAt (m .cs) (byteOf x))) → Payload (m .cs) i → Payload (settledM places m ks .cs) i
-        → op .word (settled op places (soundᵇ op most places) s ks) i ≡ op .word s i
+    settled-keeps : (v : ℕ) (ks : List ℕ) → ((x : ℕ) → Mem x ks → (6 ≤ x) × (0 < usedAt (m .cs) (byteOf x))) → Payload (m .cs) i → Payload (settledM places m v ks .cs) i
+        → op .word (settled op places (soundᵇ op most places) s v ks) i ≡ op .word s i
     unfolding settled
-    settled-keeps [] us p p′ = refl
-    settled-keeps (k ∷ ks) us p p′ = go (leb (length (k ∷ ks)) places) p′
+    settled-keeps v [] us p p′ = refl
+    settled-keeps v (k ∷ ks) us p p′ = go (leb (length (k ∷ ks)) places) p′
       where
-        go : (t : Bool) → Payload ((pick t (record { cs = m .cs; orders = m .orders; figs = withCached (m .figs) (k ∷ ks) }) (gaveM m ks (byteOf k) (sizeM m k))) .cs) i
-            → op .word (pick t (op .setRest s (withCached (op .rest s) (k ∷ ks)))
-            (op .setRest (releaseChunk op s (k - 6) (lengthAt op s k)) (released (op .rest s) ks (lengthAt op s k)))) i ≡ op .word s i
-        go true y = L E s m h .word-setRest s (withCached (op .rest s) (k ∷ ks)) i
-        go false y = let u = us k (List·Memᴰ·head refl) in gave-keeps k ks (released (op .rest s) ks (lengthAt op s k)) (u .0) (u .1) p y
+        go : (t : Bool) → Payload ((pick t (record { cs = m .cs; orders = m .orders; figs = withCached (m .figs) v (k ∷ ks) }) (gaveM m v ks (byteOf k) (sizeM m k))) .cs) i
+            → op .word (pick t (op .setRest s (withCached (op .rest s) v (k ∷ ks)))
+            (op .setRest (releaseChunk op s (k - 6) (lengthAt op s k)) (released (op .rest s) v ks (lengthAt op s k)))) i ≡ op .word s i
+        go true y = L E s m h .word-setRest s (withCached (op .rest s) v (k ∷ ks)) i
+        go false y = let u = us k (List·Memᴰ·head refl) in gave-keeps k v ks (released (op .rest s) v ks (lengthAt op s k)) (u .0) (u .1) p y
 
     back-keeps : (p : ℕ) → Payload (m .cs) i → Payload (takeBackM places m p .after .cs) i → op .word (back op most places s p .after) i ≡ op .word s i
     unfolding takeBack takeBackM
     back-keeps p a b = rw (true-sound E s (m, h), live-same E (soundᵇ op most places) s m h p, h .figs) (go (eqb (liveM m p) 0) refl b)
       where
-        both : (x : ℕ) → Mem x (m .figs .cached) ⊎ Mem x (nameOf (p - 4) ∷ []) → byteOf (nameOf (p - 4)) ≡ p - 4 → 0 < usedAt (m .cs) (p - 4)
-            → (6 ≤ x) × (0 < usedAt (m .cs) (byteOf x))
-        both x (inl q) c d = h .cache .used x q
-        both x (inr q) c d = let e = List·Memᴰ·eq-of-singleton q in (omega arith, subst (λ (t : ℕ). 0 < usedAt (m .cs) t) (sym (ap byteOf e ∙ c)) d)
-
-        go : (t : Bool) → eqb (liveM m p) 0 ≡ t → Payload ((pick t (says 4 0 0 m) (says 0 0 0 (settledM places m (m .figs .cached ++ nameOf (p - 4) ∷ [])))) .after .cs) i
-            → op .word ((pick t (says 4 0 0 s) (says 0 0 0 (settled op places (soundᵇ op most places) s (m .figs .cached ++ nameOf (p - 4) ∷ [])))) .after) i
-            ≡ op .word s i
+        go : (t : Bool) → eqb (liveM m p) 0 ≡ t
+            → Payload ((pick t (says 4 0 0 m) (says 0 0 0 (settledM places m (m .figs .inUse - liveM m p) (m .figs .cached ++ nameOf (p - 4) ∷ [])))) .after .cs) i
+            → op .word ((pick t (says 4 0 0 s) (says 0 0 0
+            (settled op places (soundᵇ op most places) s (m .figs .inUse - liveM m p) (m .figs .cached ++ nameOf (p - 4) ∷ [])))) .after) i ≡ op .word s i
         go true e y = refl
         go false e y =
-            let v = live-is E (soundᵇ op most places) s m h p (eqb-false (liveM m p) 0 e) in
-            settled-keeps (m .figs .cached ++ nameOf (p - 4) ∷ []) (λ x q. both x (List·Memᴰ·append-cases (m .figs .cached) q) (v .0) (v .1)) a y
+            settled-keeps (m .figs .inUse - liveM m p) (m .figs .cached ++ nameOf (p - 4) ∷ []) (snoc-used E (soundᵇ op most places) s m h p (eqb-false (liveM m p) 0 e)) a y
 
   -- NO CALL CHANGES a word of a payload live before and after it
   pub payload-kept : (q : Request) (s : S) (i : ℕ) → Live op most places s i → Live op most places (call op most places q s .after) i

@@ -61,6 +61,12 @@ module _ {S : Type 0} (op : Ops S Figures) (most places : ℕ) where
       ((s : S) (size : ℕ) → Sound op most places s → Sound op most places (asked s size .after))
       × ((s : S) (p : ℕ) → Sound op most places s → Sound op most places (given s p .after))
 
+  -- what tasks hold is committed, committed is at most its peak, and that at most high water
+  abbrev pub FiguresOrdered : Type 0
+  FiguresOrdered =
+      (s : S) → Sound op most places s
+      → (op .rest s .inUse ≤ op .rest s .committed) × (op .rest s .committed ≤ op .rest s .peak) × (op .rest s .peak ≤ op .rest s .high)
+
   -- DEMAND 2: each answer exactly when
   abbrev pub ZeroExactly : Type 0
   ZeroExactly = (s : S) (size : ℕ) → Iff (asked s size .number ≡ 1) (size ≡ 0)
@@ -128,6 +134,7 @@ module _ {S : Type 0} (op : Ops S Figures) (most places : ℕ) where
     pub tested : SoundTested
     pub unique : SoundUnique
     pub kept : SoundKept
+    pub ordered : FiguresOrdered
     pub zero : ZeroExactly
     pub large : LargeExactly
     pub damaged : DamagedExactly

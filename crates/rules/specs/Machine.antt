@@ -29,7 +29,7 @@ madeM n =
     record {
       cs = free (4 * (n - 1)) ∷ [];
       orders = push (λ k. []) (classOf (4 * (n - 1))) 6;
-      figs = record { words = n; cached = []; inUse = 0; peak = 0; high = 0; flag = false };
+      figs = record { words = n; cached = []; inUse = 0; committed = 0; peak = 0; high = 0; flag = false };
     }
 
 -- HANDING OUT: the listed chunk x of n bytes taken for z
@@ -57,7 +57,7 @@ fromListM m z lost = says 5 0 0 m
 
 -- from the cache; else from a list
 abbrev pub fromCacheM : Model → ℕ → Chosen → Outcome Model
-fromCacheM m z (one x ks) = says 0 (byteOf x + 4) 0 (record { cs = m .cs; orders = m .orders; figs = withCached (m .figs) ks })
+fromCacheM m z (one x ks) = says 0 (byteOf x + 4) 0 (record { cs = m .cs; orders = m .orders; figs = withCached (m .figs) (m .figs .inUse + sizeM m x) ks })
 fromCacheM m z none = fromListM m z (searchM m z)
 
 -- size bytes asked
@@ -73,27 +73,27 @@ liveM m p =
     let cold = pick (listed (nameOf (p - 4)) (m .figs .cached)) 0 (usedAt (m .cs) (p - 4)) in
     pick (leb 4 p) cold 0
 
--- the chunk of n bytes at byte b released, ks cached
-unfoldable pub gaveM : Model → List ℕ → ℕ → ℕ → Model
-gaveM m ks b n =
-    let i = indexAt (m .cs) b in
-    let f = freeLast 0 (take i (m .cs)) in
+-- the chunk of n bytes at byte b released, ks cached, tasks holding i bytes
+unfoldable pub gaveM : Model → ℕ → List ℕ → ℕ → ℕ → Model
+gaveM m i ks b n =
+    let j = indexAt (m .cs) b in
+    let f = freeLast 0 (take j (m .cs)) in
     record {
-      cs = release (m .cs) i;
-      orders = mergedOrders classOf (m .orders) (b - f) f n (freeHead (drop (suc i) (m .cs)));
-      figs = released (m .figs) ks n;
+      cs = release (m .cs) j;
+      orders = mergedOrders classOf (m .orders) (b - f) f n (freeHead (drop (suc j) (m .cs)));
+      figs = released (m .figs) i ks n;
     }
 
--- the chunks ks cached, or, where they are too many, the oldest released
-abbrev pub settledM : ℕ → Model → List ℕ → Model
-settledM places m [] = m
-settledM places m (k ∷ ks) =
-    pick (leb (length (k ∷ ks)) places) (record { cs = m .cs; orders = m .orders; figs = withCached (m .figs) (k ∷ ks) }) (gaveM m ks (byteOf k) (sizeM m k))
+-- the chunks ks cached and tasks holding i bytes; where the chunks are too many, the oldest is released
+abbrev pub settledM : ℕ → Model → ℕ → List ℕ → Model
+settledM places m i [] = m
+settledM places m i (k ∷ ks) =
+    pick (leb (length (k ∷ ks)) places) (record { cs = m .cs; orders = m .orders; figs = withCached (m .figs) i (k ∷ ks) }) (gaveM m i ks (byteOf k) (sizeM m k))
 
 -- payload offset p given back
 unfoldable pub takeBackM : ℕ → Model → ℕ → Outcome Model
 takeBackM places m p =
-    let done = says 0 0 0 (settledM places m (m .figs .cached ++ nameOf (p - 4) ∷ [])) in
+    let done = says 0 0 0 (settledM places m (m .figs .inUse - liveM m p) (m .figs .cached ++ nameOf (p - 4) ∷ [])) in
     pick (eqb (liveM m p) 0) (says 4 0 0 m) done
 
 -- A REQUEST: to hand out a size, to take a payload offset back

@@ -12,11 +12,13 @@ use Rattle.rules.specs.Steps.{portion, lengthAt, takeChunk, emptied, rel
 use Rattle.rules.specs.Search.{Found, at, nowhere, lost, findWalk, searchAll}
 use Rattle.rules.specs.Place.{usedWalk}
 
--- what the record holds beside its links; the cached chunks by their links, oldest first
+-- what the record holds beside its links; the cached chunks by their links, oldest first; in use as tasks hold it, and committed, which counts the cached
+-- chunks too
 pub record Figures : Type 0 where
   pub words : ℕ
   pub cached : List ℕ
   pub inUse : ℕ
+  pub committed : ℕ
   pub peak : ℕ
   pub high : ℕ
   pub flag : Bool
@@ -63,9 +65,9 @@ unfoldable pub listed : ℕ → List ℕ → Bool
 listed x [] = false
 listed x (y ∷ ys) = let r = listed x ys in pick (eqb x y) true r
 
--- THE FIGURES after only the cache changed: the counters stay
-abbrev pub withCached : Figures → List ℕ → Figures
-withCached r ks = record { words = r .words; cached = ks; inUse = r .inUse; peak = r .peak; high = r .high; flag = r .flag }
+-- THE FIGURES after only the cache changed and tasks hold i bytes: the other counters stay
+abbrev pub withCached : Figures → ℕ → List ℕ → Figures
+withCached r i ks = record { words = r .words; cached = ks; inUse = i; committed = r .committed; peak = r .peak; high = r .high; flag = r .flag }
 
 -- after a chunk of m bytes that ends at byte e came from a list
 abbrev pub counted : Figures → ℕ → ℕ → Figures
@@ -74,14 +76,15 @@ counted r m e =
       words = r .words;
       cached = r .cached;
       inUse = r .inUse + m;
-      peak = max (r .peak) (r .inUse + m);
+      committed = r .committed + m;
+      peak = max (r .peak) (r .committed + m);
       high = max (r .high) e;
       flag = pick (ltb (r .high) e) true (r .flag);
     }
 
--- after a chunk of n bytes was released, ks staying cached
-abbrev pub released : Figures → List ℕ → ℕ → Figures
-released r ks n = record { words = r .words; cached = ks; inUse = r .inUse - n; peak = r .peak; high = r .high; flag = r .flag }
+-- after a chunk of n bytes was released, ks staying cached and tasks holding i bytes
+abbrev pub released : Figures → ℕ → List ℕ → ℕ → Figures
+released r i ks n = record { words = r .words; cached = ks; inUse = i; committed = r .committed - n; peak = r .peak; high = r .high; flag = r .flag }
 
 module _ {S : Type 0} (op : Ops S Figures) (places : ℕ) (sound : S → Bool) where
   -- HANDING OUT: 2. lists from the start class upwards, each from its sentinel's next; n words list at most n / 4 chunks
@@ -97,9 +100,11 @@ module _ {S : Type 0} (op : Ops S Figures) (places : ℕ) (sound : S → Bool) w
   fromList s z (nowhere c) = says 3 0 c s
   fromList s z lost = says 5 0 0 s
 
-  -- 1. a cached chunk that serves is handed out whole, its payload set to 0; the counters stay
+  -- 1. a cached chunk that serves is handed out whole, its payload set to 0; in use grows by its length, the other counters stay
   unfoldable pub fromCache : S → ℕ → Chosen → Outcome S
-  fromCache s z (one x ks) = says 0 (byteOf x + 4) 0 (emptied op (op .setRest s (withCached (op .rest s) ks)) (x - 6) (lengthAt op s x))
+  fromCache s z (one x ks) =
+      let n = lengthAt op s x in
+      says 0 (byteOf x + 4) 0 (emptied op (op .setRest s (withCached (op .rest s) (op .rest s .inUse + n) ks)) (x - 6) n)
   fromCache s z none = fromList s z (firstFit s z)
 
   -- a rounded size served, on a sound state
@@ -121,17 +126,17 @@ module _ {S : Type 0} (op : Ops S Figures) (places : ℕ) (sound : S → Bool) w
       let cold = pick (listed (nameOf (p - 4)) (op .rest s .cached)) 0 used in
       pick (leb 4 p) cold 0
 
-  -- the chunks ks cached, or, where they are too many, the oldest released
-  unfoldable pub settled : S → List ℕ → S
-  settled s [] = s
-  settled s (k ∷ ks) =
+  -- the chunks ks cached and tasks holding i bytes; where the chunks are too many, the oldest is released
+  unfoldable pub settled : S → ℕ → List ℕ → S
+  settled s i [] = s
+  settled s i (k ∷ ks) =
       let n = lengthAt op s k in
-      let off = op .setRest (releaseChunk op s (k - 6) n) (released (op .rest s) ks n) in
-      pick (leb (length (k ∷ ks)) places) (op .setRest s (withCached (op .rest s) (k ∷ ks))) off
+      let off = op .setRest (releaseChunk op s (k - 6) n) (released (op .rest s) i ks n) in
+      pick (leb (length (k ∷ ks)) places) (op .setRest s (withCached (op .rest s) i (k ∷ ks))) off
 
-  -- payload offset p given back: 5, then 4, else the chunk is cached
+  -- payload offset p given back: 5, then 4, else the chunk is cached, and in use falls by its length
   unfoldable pub takeBack : S → ℕ → Outcome S
   takeBack s p =
-      let done = says 0 0 0 (settled s (op .rest s .cached ++ nameOf (p - 4) ∷ [])) in
+      let done = says 0 0 0 (settled s (op .rest s .inUse - live s p) (op .rest s .cached ++ nameOf (p - 4) ∷ [])) in
       let known = pick (eqb (live s p) 0) (says 4 0 0 s) done in
       pick (sound s) known (says 5 0 0 s)

@@ -12,7 +12,7 @@ use Rattle.rules.specs.Exact.{frees, Exact}
 use Rattle.rules.specs.Place.{usedAt}
 use Rattle.words.specs.Sizes.{classOf}
 use Rattle.rules.specs.Ops.{Ops}
-use Rattle.rules.specs.Rules.{Figures, byteOf}
+use Rattle.rules.specs.Rules.{Figures, byteOf, nameOf, listed}
 use Rattle.rules.specs.Machine.{Model}
 
 -- an odd count of words, 5 to `most` (65,529 with narrow links)
@@ -24,16 +24,22 @@ abbrev pub Under : ℕ → ℕ → List Chunk → Type 0
 Under h b [] = Unit {0}
 Under h b (c ∷ cs) = (pick (c .used) (b + c .len) 0 ≤ h) × Under h (b + c .len) cs
 
+-- the sum of live lengths, from byte b on: used chunks that are not cached
+abbrev pub liveSum : List ℕ → ℕ → List Chunk → ℕ
+liveSum ks b [] = 0
+liveSum ks b (c ∷ cs) = pick (c .used) (pick (listed (nameOf b) ks) 0 (c .len)) 0 + liveSum ks (b + c .len) cs
+
 -- the cached ones are used chunks, all different, no more than there are places
 pub record CacheRight (places : ℕ) (ks : List ℕ) (cs : List Chunk) : Type 0 where
   pub used : (x : ℕ) → Mem x ks → (6 ≤ x) × (0 < usedAt cs (byteOf x))
   pub once : Distinct ks
   pub room : length ks ≤ places
 
--- the figures, against b bytes before the guard
+-- the figures, against b bytes before the guard: in use is the sum of live lengths, committed the sum of used ones
 pub record FiguresRight (f : Figures) (b : ℕ) (cs : List Chunk) : Type 0 where
-  pub inUse : f .inUse ≡ usedSum cs
-  pub peak : f .inUse ≤ f .peak
+  pub inUse : f .inUse ≡ liveSum (f .cached) 0 cs
+  pub committed : f .committed ≡ usedSum cs
+  pub peak : f .committed ≤ f .peak
   pub high : f .peak ≤ f .high
   pub heap : f .high ≤ b
   pub eights : f .high % 8 ≡ 0

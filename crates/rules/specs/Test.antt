@@ -15,6 +15,7 @@ use Rattle.words.specs.Sizes.{classOf}
 use Rattle.rules.specs.Ops.{Ops}
 use Rattle.rules.specs.Rules.{Figures, byteOf, listed}
 use Rattle.rules.specs.Machine.{Model}
+use Rattle.rules.specs.Sound.{liveSum}
 
 -- the chunks that the headers give, from byte e on
 unfoldable pub tile : (ℕ → ℕ) → ℕ → ℕ → List Chunk
@@ -79,8 +80,8 @@ cacheᵇ places ks cs = both (everyᵇ (λ x. both (leb 6 x) (leb 1 (usedAt cs (
 
 unfoldable pub figuresᵇ : Figures → ℕ → List Chunk → Bool
 figuresᵇ f b cs =
-    both (eqb (f .inUse) (usedSum cs)) (both (leb (f .inUse) (f .peak)) (both (leb (f .peak) (f .high))
-    (both (leb (f .high) b) (both (eqb (f .high % 8) 0) (underᵇ (f .high) 0 cs)))))
+    both (eqb (f .inUse) (liveSum (f .cached) 0 cs)) (both (eqb (f .committed) (usedSum cs)) (both (leb (f .committed) (f .peak)) (both (leb (f .peak) (f .high))
+    (both (leb (f .high) b) (both (eqb (f .high % 8) 0) (underᵇ (f .high) 0 cs))))))
 
 module _ {S : Type 0} (op : Ops S Figures) (most places : ℕ) where
   -- the one candidate: the headers' chunks, the links' orders, the record's figures
