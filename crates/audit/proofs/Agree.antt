@@ -24,6 +24,7 @@ use Rattle.rules.specs.Machine.{Model}
 use Rattle.rules.specs.Sound.{CacheRight, FiguresRight, Shows, Sound}
 use Rattle.rules.specs.Test.{soundᵇ}
 use Rattle.rules.proofs.Proved.{narrow-demands}
+use Rattle.rules.proofs.LiveSums.{live-and-held}
 use Rattle.audit.specs.declared.Figures.{Figures}
 use Rattle.audit.specs.Shown.{shown, cachedOf}
 use Rattle.audit.specs.Layout.{Chunk, free, used, pick, Tiles, freeLinks}
@@ -32,6 +33,7 @@ use Rattle.audit.proofs.Counting.{same-bit, diff-bit, none-or-some, cha
 use Rattle.audit.proofs.Tilings.{all, backs, all-backs, sum-same, end-under, under-end}
 use Rattle.audit.proofs.Tilings as tilings
 use Rattle.audit.proofs.Sound.{ListRight, SoundPair}
+use Rattle.audit.proofs.Cached.{held-sum}
 use Rattle.audit.proofs.tiling.Places.{free-in, links-once}
 
 -- COUNTS AND MEMBERS
@@ -162,7 +164,9 @@ module _ (prev next : List Link) (f : Figures) (ws : List ℕ) where
           };
           cache = z .cached;
           right = record {
-            inUse = F .inUse ∙ sym (sum-same cs);
+            inUse = (let l = live-and-held (cachedOf (f .cached .0)) (all cs) (t .0) (z .cached .once) (z .cached .used) in
+                let k = held-sum ws cs (z .tiles) (f .cached .0) (z .cached) in let i = F .inUse in let u = sum-same cs in omega arith);
+            committed = F .committed ∙ sym (sum-same cs);
             peak = F .peak;
             high = F .high;
             heap = (let y = F .heap in omega arith);
@@ -219,6 +223,10 @@ module _ (prev next : List Link) (f : Figures) (ws : List ℕ) where
         equal _ _ (chain-once (nextOf next ws) (prevOf prev ws) c (m .orders c) c (chain c q) (no-sentinel c q) x) (links-once ds ws c 0 true tiles x)
         (listed-link c x q) (link-listed c x)
 
+    -- the cached chunk is right for it
+    cache : CacheRight 1 (cachedOf (f .cached .0)) (all ds)
+    cache = subst (λ cs. CacheRight 1 (cachedOf (f .cached .0)) cs) (sym same) (subst (λ ks. CacheRight 1 ks (m .cs)) (sym (ap (λ r. r .cached) (s .figs))) (s .cache))
+
     -- the pair is sound by words and counts
     from-rules : SoundPair prev next f ws
     from-rules =
@@ -230,13 +238,15 @@ module _ (prev next : List Link) (f : Figures) (ws : List ℕ) where
           layout = ds;
           tiles = tiles;
           lists = λ c q. record { order = m .orders c; chain = chain c q; exact = exact c q };
-          cached = subst (λ cs. CacheRight 1 (cachedOf (f .cached .0)) cs) (sym same) (subst (λ ks. CacheRight 1 ks (m .cs)) (sym (ap (λ r. r .cached) (s .figs))) (s .cache));
+          cached = cache;
           figures = record {
             words = sym (ap (λ r. r .words) (s .figs) ∙ s .words);
             least = a .0;
             most = a .1;
             odd = a .2;
-            inUse = g .inUse ∙ sum-same ds;
+            inUse = (let l = live-and-held (cachedOf (f .cached .0)) (all ds) legal (cache .once) (cache .used) in
+                let k = held-sum ws ds tiles (f .cached .0) cache in let i = g .inUse in let u = sum-same ds in omega arith);
+            committed = g .committed ∙ sum-same ds;
             peak = g .peak;
             high = g .high;
             heap = (let y = g .heap in omega arith);

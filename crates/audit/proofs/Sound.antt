@@ -11,7 +11,7 @@ use Rattle.rules.specs.Sound.{CacheRight}
 use Rattle.audit.specs.declared.Figures.{Figures}
 use Rattle.audit.specs.Shown.{cachedOf}
 use Rattle.audit.specs.Layout.{Chunk, Tiles, usedSum, usedEnd, freeLinks}
-use Rattle.audit.specs.Walk.{FiguresFit}
+use Rattle.audit.specs.Walk.{heldAt, cachedWord, FiguresFit}
 use Rattle.audit.specs.Rings.{count, nextOf, prevOf}
 use Rattle.audit.proofs.Tilings.{all}
 
@@ -27,4 +27,4 @@ pub record SoundPair (prev next : List Link) (f : Figures) (ws : List ℕ) : Typ
   pub tiles : Tiles ws 0 true layout
   pub lists : (c : ℕ) → c < 6 → ListRight (nextOf next ws) (prevOf prev ws) layout c
   pub cached : CacheRight 1 (cachedOf (f .cached .0)) (all layout)
-  pub figures : FiguresFit f (length ws) (usedSum layout) (usedEnd 0 0 layout)
+  pub figures : FiguresFit f (length ws) (usedSum layout) (heldAt ws (cachedWord (length ws) (f .cached .0))) (usedEnd 0 0 layout)

@@ -10,7 +10,7 @@ use Rattle.audit.specs.declared.Figures.{Figures}
 use Rattle.audit.specs.declared.tiling.Tally.{Tally}
 use Rattle.audit.specs.declared.rings.Followed.the-variants.{Long}
 use Rattle.audit.specs.Layout.{usedSum, usedEnd}
-use Rattle.audit.specs.Walk.{Broken, tiledBy, tallied, cacheRightᵇ, FiguresFit}
+use Rattle.audit.specs.Walk.{Broken, tiledBy, tallied, heldAt, cachedWord, cacheRightᵇ, FiguresFit}
 use Rattle.audit.specs.Rings.{count, nextOf, listOf, AreRings}
 use Rattle.audit.specs.Window.{Ringed, Listed}
 use Rattle.audit.proofs.tiling.Walks.{Found, broken-not-whole, tiled-sound, tiled-complete}
@@ -30,17 +30,21 @@ module _ (prev next : List Link) (f : Figures) (ws : List ℕ) where
 
   -- with the tally of a walk that ended at the guard
   module _ (t : Tally) (a : (c : ℕ) → c < 6 → tiledBy ws c ≡ tallied t c) (e : t .whole ≡ true) where
+    -- what is held at the cached chunk's word
+    abbrev held : ℕ
+    held = heldAt ws (cachedWord (length ws) (f .cached .0))
+
     -- the layout that the walk found
     found : Found ws 0 0 true 0 0 0 (t .sum) (t .top) (getD (t .frees) 0 0)
     found = tiled-sound ws 0 _ _ _ (tally-whole ws t a e 0 (omega arith))
 
     -- the figures of a sound pair fit the tally
-    pub figures-of : SoundPair prev next f ws → FiguresFit f (length ws) (t .sum) (t .top)
+    pub figures-of : SoundPair prev next f ws → FiguresFit f (length ws) (t .sum) held (t .top)
     figures-of z =
         let q = sym (tally-whole ws t a e 0 (omega arith)) ∙ tiled-complete ws (z .layout) 0 (z .tiles) in
         let x : usedSum (z .layout) ≡ t .sum = cc (q) in
         let y : usedEnd 0 0 (z .layout) ≡ t .top = cc (q) in
-        subst₂ (λ (j k : ℕ). FiguresFit f (length ws) j k) x y (z .figures)
+        subst₂ (λ (j k : ℕ). FiguresFit f (length ws) j held k) x y (z .figures)
 
     -- its lists are rings of the lengths that were counted
     pub rings-of : SoundPair prev next f ws → AreRings prev next ws (t .frees)
@@ -59,7 +63,7 @@ module _ (prev next : List Link) (f : Figures) (ws : List ℕ) where
       ringed-of = record { layout = found .layout; tiles = found .tiles; inside = (λ c i x k. ring-inside prev next ws c (getD (t .frees) c 0) (r c i) x k) }
 
       -- WHERE ALL TESTS HOLD, the pair is sound
-      pub sound-of : FiguresFit f (length ws) (t .sum) (t .top) → cacheRightᵇ ws (f .cached .0) ≡ true → Listed next ws (t .frees) → SoundPair prev next f ws
+      pub sound-of : FiguresFit f (length ws) (t .sum) held (t .top) → cacheRightᵇ ws (f .cached .0) ≡ true → Listed next ws (t .frees) → SoundPair prev next f ws
       sound-of g k l =
           let cs = found .layout in
           let x : t .sum ≡ usedSum cs = omega (arith, found .sumIs) in
@@ -68,5 +72,5 @@ module _ (prev next : List Link) (f : Figures) (ws : List ℕ) where
             tiles = found .tiles;
             lists = (λ c i. list-right ws cs (found .tiles) c prev next i (getD (t .frees) c 0) (tally-many ws t a e cs (found .tiles) c i) (r c i) (l c i));
             cached = cache-sound ws cs (found .tiles) (f .cached .0) k;
-            figures = subst₂ (λ (j h : ℕ). FiguresFit f (length ws) j h) x (found .topIs) g;
+            figures = subst₂ (λ (j h : ℕ). FiguresFit f (length ws) j held h) x (found .topIs) g;
           }

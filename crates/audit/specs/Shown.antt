@@ -21,5 +21,5 @@ shown prev next f ws =
       prevs = numbers prev;
       nexts = numbers next;
       words = ws;
-      rest = record { words = f .words; cached = cachedOf (f .cached .0); inUse = f .«in_use»; peak = f .peak; high = f .high; flag = false };
+      rest = record { words = f .words; cached = cachedOf (f .cached .0); inUse = f .«in_use»; committed = f .committed; peak = f .peak; high = f .high; flag = false };
     }

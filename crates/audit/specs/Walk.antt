@@ -104,14 +104,15 @@ cacheBy l held = pick (eqb l 0) true (not (eqb held 0))
 unfoldable pub cacheRightᵇ : List ℕ → ℕ → Bool
 cacheRightᵇ ws l = cacheBy l (heldAt ws (cachedWord (length ws) l))
 
--- THE FIGURES, against n words, the sum of used lengths and the end of the last used chunk
-pub record FiguresFit (f : Figures) (n sum top : ℕ) : Type 0 where
+-- THE FIGURES, against n words, the sum of used lengths, what of it is cached, and the end of the last used chunk
+pub record FiguresFit (f : Figures) (n sum held top : ℕ) : Type 0 where
   pub words : n ≡ f .words
   pub least : 5 ≤ n
   pub most : n ≤ 65529
   pub odd : n % 2 ≡ 1
-  pub inUse : f .«in_use» ≡ sum
-  pub peak : f .«in_use» ≤ f .peak
+  pub committed : f .committed ≡ sum
+  pub inUse : f .«in_use» + held ≡ sum
+  pub peak : f .committed ≤ f .peak
   pub high : f .peak ≤ f .high
   pub heap : f .high ≤ n * 4 - 4
   pub eights : f .high % 8 ≡ 0

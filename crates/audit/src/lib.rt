@@ -30,8 +30,9 @@ use words::Link;
 pub struct Figures {
     // The heap's length in words.
     pub words: u32,
-    // Bytes in use, their peak, and the high water mark.
+    // Bytes in use as tasks hold them, bytes committed, their peak, and the high water mark.
     pub in_use: u32,
+    pub committed: u32,
     pub peak: u32,
     pub high: u32,
     // The cached chunk; link 0 for none.
@@ -58,9 +59,9 @@ fn cache_right(cached: Link, held: usize) -> bool
     held != 0
 }
 
-// Whether the figures are right for n words whose used chunks sum up to `sum` and end at `top`.
-fn figures_right(f: Figures, n: usize, sum: usize, top: usize) -> bool
-    ensures { λ (r : Bool). ⌜ (r ≡ true ↔ FiguresFit f n sum top) ⌝ }
+// Whether the figures are right for n words whose used chunks sum up to `sum` and end at `top`, `held` bytes of them cached.
+fn figures_right(f: Figures, n: usize, sum: usize, held: usize, top: usize) -> bool
+    ensures { λ (r : Bool). ⌜ (r ≡ true ↔ FiguresFit f n sum held top) ⌝ }
 {
     if f.words as usize != n {
         return false;
@@ -74,10 +75,16 @@ fn figures_right(f: Figures, n: usize, sum: usize, top: usize) -> bool
     if n % 2 == 0 {
         return false;
     }
-    if f.in_use as usize != sum {
+    if f.committed as usize != sum {
         return false;
     }
-    if f.peak < f.in_use {
+    if f.committed < f.in_use {
+        return false;
+    }
+    if (f.committed - f.in_use) as usize != held {
+        return false;
+    }
+    if f.peak < f.committed {
         return false;
     }
     if f.high < f.peak {
@@ -103,7 +110,7 @@ pub fn audit(prev: [Link; 6], next: [Link; 6], figures: Figures, heap: &[u32]) -
     if !whole {
         return false;
     }
-    let right = figures_right(figures, heap.len(), t.sum, t.top);
+    let right = figures_right(figures, heap.len(), t.sum, t.held, t.top);
     if !right {
         return false;
     }

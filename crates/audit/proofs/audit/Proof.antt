@@ -13,7 +13,7 @@ use Rattle.rules.specs.State.{ops}
 use Rattle.audit.specs.Shown.{shown}
 use Rattle.audit.proofs.Whole.{not-broken, cache-of, figures-of, rings-of, ringed-of, listed-of, sound-of}
 use Rattle.audit.proofs.Agree.{tells}
-use Rattle.audit.proofs.Cached.{cache-held}
+use Rattle.audit.proofs.Cached.{cache-held, held-is, held-fit}
 use Rattle.audit.proofs.tiling.Tallies.{tally-broken}
 use Rattle.audit.proofs.Counting.{refused, passed-on}
 use Rattle.audit.proofs.Sound.{SoundPair}
@@ -44,8 +44,9 @@ returns-2 : tie.Need-returns-2
 returns-2 c =
     let walk = c .before .before .before .count-chunks .ensures .0 in
     let whole = not-false _ (c .before .before .if1 .left) in
+    let held = held-is _ _ _ _ (c .before .before .before .before .cached-word .ensures) (c .before .before .before .count-chunks .ensures .1 whole) in
     told (c .before .before .before .before .before .before) _
-    (refused (λ s. false≢true (sym (not-true _ (c .if2 .taken)) ∙ c .before .figures-right .ensures .1 (figures-of _ _ _ _ _ walk whole s))))
+    (refused (λ s. false≢true (sym (not-true _ (c .if2 .taken)) ∙ c .before .figures-right .ensures .1 (held-fit _ _ _ _ _ _ (sym held) (figures-of _ _ _ _ _ walk whole s)))))
 
 cache-right-requires : tie.Need-cache-right-requires
 cache-right-requires c κs = search needs
@@ -78,7 +79,8 @@ returns-5 : tie.Need-returns-5
 returns-5 c =
     let walk = c .before .before .before .before .before .before .before .before .before .count-chunks .ensures .0 in
     let whole = not-false _ (c .before .before .before .before .before .before .before .before .if1 .left) in
-    let figures = c .before .before .before .before .before .before .before .figures-right .ensures .0 (not-false _ (c .before .before .before .before .before .before .if2 .left)) in
+    let is = held-is _ _ _ _ (c .before .before .before .before .before .before .before .before .before .before .cached-word .ensures) (c .before .before .before .before .before .before .before .before .before .count-chunks .ensures .1 whole) in
+    let figures = held-fit _ _ _ _ _ _ is (c .before .before .before .before .before .before .before .figures-right .ensures .0 (not-false _ (c .before .before .before .before .before .before .if2 .left))) in
     let held = cache-held _ _ _ _ (c .before .before .before .before .before .before .before .before .before .before .cached-word .ensures) (c .before .before .before .before .before .before .before .before .before .count-chunks .ensures .1 whole) in
     let cache = sym (c .before .before .before .before .before .cache-right .ensures ∙ held) ∙ not-false _ (c .before .before .before .before .if3 .left) in
     let rings = c .before .before .rings-right .ensures .0 (not-false _ (c .before .if4 .left)) in
