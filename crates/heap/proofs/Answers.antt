@@ -8,7 +8,7 @@
 --     hand-.., back-..    the tests in their order
 use mathlib.Core.Path.{_≡_, refl, sym, ap, _∙_, subst}
 use mathlib.Core.Logic.{_≢_}
-use mathlib.Core.Bool.{Bool, true, false}
+use mathlib.Core.Bool.{Bool, true, false, false≢true}
 use mathlib.Core.List.{List, [], _∷_, _++_, List·Memᴰ·head}
 use Prim.Native.Nat.{ℕ, _+_, _-_, _*_, _/_, _%_, _^_, _≤_, _<_}
 use native.Mathlib.Omega.{arith}
@@ -44,7 +44,7 @@ use Rattle.audit.specs.Shown.{cachedOf}
 use Rattle.rules.proofs.Store.{Edition}
 use Rattle.words.proofs.Laws.Links.{narrow-lawful}
 use Rattle.rules.proofs.Editions.{edition, narrow-fits}
-use Rattle.rules.proofs.Bounds.{FoundFits, found-fitsᵇ, never-lostᵇ, nowhere-shortᵇ, CachedFits, cached-fitsᵇ, ReleaseFits, release-fitsᵇ, LiveFits, live-fitsᵇ, FiguresFit, figures-fitᵇ}
+use Rattle.rules.proofs.Bounds.{FoundFits, found-fitsᵇ, never-lostᵇ, nowhere-shortᵇ, CachedFits, cached-fitsᵇ, cached-heldᵇ, ReleaseFits, release-fitsᵇ, LiveFits, live-fitsᵇ, FiguresFit, figures-fitᵇ}
 
 -- ---- MAKING
 
@@ -78,11 +78,11 @@ pub ours : Edition base 65529 1
 ours = edition narrow-lawful 65529 1 narrow-fits
 
 -- the test does not look at the flag
-pub sound-flag : (ps ns ws : List ℕ) (n : ℕ) (ks : List ℕ) (u p h : ℕ) (b d : Bool)
-    → soundAt (record { prevs = ps; nexts = ns; words = ws; rest = record { words = n; cached = ks; inUse = u; peak = p; high = h; flag = b } })
-    ≡ soundAt (record { prevs = ps; nexts = ns; words = ws; rest = record { words = n; cached = ks; inUse = u; peak = p; high = h; flag = d } })
+pub sound-flag : (ps ns ws : List ℕ) (n : ℕ) (ks : List ℕ) (u k p h : ℕ) (b d : Bool)
+    → soundAt (record { prevs = ps; nexts = ns; words = ws; rest = record { words = n; cached = ks; inUse = u; committed = k; peak = p; high = h; flag = b } })
+    ≡ soundAt (record { prevs = ps; nexts = ns; words = ws; rest = record { words = n; cached = ks; inUse = u; committed = k; peak = p; high = h; flag = d } })
 unfolding soundᵇ showsᵇ candidate figuresᵇ
-sound-flag ps ns ws n ks u p h b d = refl
+sound-flag ps ns ws n ks u k p h b d = refl
 
 -- ---- PLACES
 
@@ -164,23 +164,33 @@ module _ (r : Record) (ws : List ℕ) (z : ℕ) where
       go (one x ks) e = absurd (let q : _≡_ {A = ℕ} 0 1 = cc in omega arith)
 
   -- HANDED OUT FROM THE CACHE, whole, its payload emptied
-  pub served-cached : (q : Record) (ws1 : List ℕ) (b : Bool) (i n : ℕ) (p : ByteOffset) → r .cached .0 < 65536 → b ≡ cacheServes (seen r ws) z → b ≡ true → i ≡ r .cached .0 - 6
-      → n ≡ lengthOf (at ws i) → ws1 ≡ emptiedIn ws i n → p .0 ≡ heldName payloads i → q ≡ withCached r (record { 0 = 0 })
+  pub served-cached : (q : Record) (ws1 : List ℕ) (b : Bool) (i n u : ℕ) (p : ByteOffset) → r .cached .0 < 65536 → b ≡ cacheServes (seen r ws) z → b ≡ true → i ≡ r .cached .0 - 6
+      → n ≡ lengthOf (at ws i) → ws1 ≡ emptiedIn ws i n → u ≡ r .«in_use» + n → p .0 ≡ heldName payloads i → q ≡ withCached r u (record { 0 = 0 })
       → outcome (Done p 0) (seen q ws1) ≡ serve base 1 soundAt (seen r ws) z
   unfolding serve fromCache
-  served-cached q ws1 b i n p hl eb h ei en ec ep eq =
+  served-cached q ws1 b i n u p hl eb h ei en ec eu ep eq =
       let v : p .0 ≡ byteOf (r .cached .0) + 4 = payload-place (r .cached .0) i (p .0) ei (omega arith) ep in
       let k : n ≡ lengthAt base (seen r ws) (r .cached .0) = en ∙ ap (λ (j : ℕ). lengthOf (at ws j)) ei in
       let state : seen q ws1 ≡ emptied base (seen q ws) (r .cached .0 - 6) (lengthAt base (seen r ws) (r .cached .0)) =
       ap (λ (vs : List ℕ). seen q vs) ec ∙ emptied-seen q ws i n ∙ ap (λ (j : ℕ). emptied base (seen q ws) i j) k
       ∙ ap (λ (j : ℕ). emptied base (seen q ws) j (lengthAt base (seen r ws) (r .cached .0))) ei in
-      rw (chosen-yes (sym eb ∙ h), v, state, eq) refl
+      rw (chosen-yes (sym eb ∙ h), v, state, eq, eu, k) refl
 
   -- and not: the lists are searched
   pub served-listed : (o : Outcome State) (b : Bool) → b ≡ cacheServes (seen r ws) z → b ≡ false
       → o ≡ fromList base 1 soundAt (seen r ws) z (firstFit base 1 soundAt (seen r ws) z) → o ≡ serve base 1 soundAt (seen r ws) z
   unfolding serve fromCache
   served-listed o b eb h eo = rw (chosen-no (sym eb ∙ h)) eo
+
+  -- it is held no more than the rest: what is in use with it stays in range
+  pub served-safe : (b : Bool) (i n : ℕ) → Served (seen r ws) z → r .committed < 2 ^ 32 → b ≡ cacheServes (seen r ws) z → b ≡ true → i ≡ r .cached .0 - 6
+      → n ≡ lengthOf (at ws i) → r .«in_use» + n < 2 ^ 32
+  served-safe b i n ok hc eb h ei en =
+      let k : r .cached .0 ≡ 0 → ⊥ = λ e. false≢true (serves-none e ∙ sym eb ∙ h) in
+      let m : Mem (r .cached .0) (cachedOf (r .cached .0)) = rw (ne-eqb _ _ k) (List·Memᴰ·head refl) in
+      let v : n ≡ lengthAt base (seen r ws) (r .cached .0) = en ∙ ap (λ (j : ℕ). lengthOf (at ws j)) ei in
+      let c = cached-heldᵇ ours (seen r ws) (ok .sound) (r .cached .0) m in
+      omega arith
 
 -- ---- THE LISTS
 
@@ -207,9 +217,9 @@ pub release-rest : (s : State) (w n : ℕ) → releaseChunk base s w n .rest ≡
 unfolding releaseChunk merged link clearLeft markFree
 release-rest s w n = merge-rest s _ _ _ _
 
--- what was in use is kept by taking, until it is counted
-pub in-use-kept : (r a : Record) (ws ws1 : List ℕ) (w n z : ℕ) → seen a ws1 ≡ takeChunk base (seen r ws) w n z → a .«in_use» ≡ r .«in_use»
-in-use-kept r a ws ws1 w n z e = ap (λ (s : State). s .rest .inUse) e ∙ ap (λ (f : Figures). f .inUse) (take-rest (seen r ws) w n z)
+-- the figures are kept by taking, until it is counted
+figures-kept : (r a : Record) (ws ws1 : List ℕ) (w n z : ℕ) → seen a ws1 ≡ takeChunk base (seen r ws) w n z → figuresOf a ≡ figuresOf r
+figures-kept r a ws ws1 w n z e = ap (λ (s : State). s .rest) e ∙ take-rest (seen r ws) w n z
 
 module _ (r : Record) (ws : List ℕ) (z : ℕ) (h : Served (seen r ws) z) where
   pub found-safe : (x c : ℕ) → rule.at x c ≡ firstFit base 1 soundAt (seen r ws) z → FoundFits base (seen r ws) z x c
@@ -232,12 +242,12 @@ module _ (r : Record) (ws : List ℕ) (z : ℕ) (h : Served (seen r ws) z) where
   listed-nowhere c d ed e = subst (λ (f : Found). outcome (NoFit d) (seen r ws) ≡ fromList base 1 soundAt (seen r ws) z f) e (rw ed refl)
 
   -- TAKEN FROM A LIST: the bounds that the steps ask for
-  pub take-safe : (x c i n : ℕ) → rule.at x c ≡ firstFit base 1 soundAt (seen r ws) z → i ≡ x - 6 → n ≡ lengthOf (at ws i) → (6 ≤ x) × (x + n / 4 < 65536) × (r .«in_use» + n < 2 ^ 32) × (c < 65536)
+  pub take-safe : (x c i n : ℕ) → rule.at x c ≡ firstFit base 1 soundAt (seen r ws) z → i ≡ x - 6 → n ≡ lengthOf (at ws i) → (6 ≤ x) × (x + n / 4 < 65536) × (c < 65536)
   take-safe x c i n e ei en =
       let q = found-safe x c e in
       let f = figures-safe .accepted in
       let v : n ≡ lengthAt base (seen r ws) x = en ∙ ap (λ (j : ℕ). lengthOf (at ws j)) ei in
-      (q .named, omega arith, omega arith, omega arith)
+      (q .named, omega arith, omega arith)
 
   -- the portion is no more than the chunk, and where it ends
   pub portion-room : (n m : ℕ) → m ≡ portion n z → m ≤ n
@@ -254,6 +264,20 @@ module _ (r : Record) (ws : List ℕ) (z : ℕ) (h : Served (seen r ws) z) where
       go true q = ap (λ (v : ℕ). v % 8) (e ∙ ap (λ (t : Bool). pick t z n) q) ∙ h .eights
       go false q = ap (λ (v : ℕ). v % 8) (e ∙ ap (λ (t : Bool). pick t z n) q) ∙ n8
 
+  -- both sums stay in range
+  pub count-safe : (a : Record) (ws1 : List ℕ) (x c i n m : ℕ) → rule.at x c ≡ firstFit base 1 soundAt (seen r ws) z → i ≡ x - 6 → n ≡ lengthOf (at ws i) → m ≡ portion n z
+      → seen a ws1 ≡ takeChunk base (seen r ws) (x - 6) n z → (a .«in_use» + m < 2 ^ 32) × (a .committed + m < 2 ^ 32)
+  count-safe a ws1 x c i n m ef ei en em ea =
+      let q = found-safe x c ef .room in
+      let f = figures-safe .accepted in
+      let o = figures-safe .inUse in
+      let v : n ≡ lengthAt base (seen r ws) x = en ∙ ap (λ (k : ℕ). lengthOf (at ws k)) ei in
+      let p = portion-room n m em in
+      let kept = figures-kept r a ws ws1 (x - 6) n z ea in
+      let u : a .«in_use» ≡ r .«in_use» = ap (λ (g : Figures). g .inUse) kept in
+      let w : a .committed ≡ r .committed = ap (λ (g : Figures). g .committed) kept in
+      (omega arith, omega arith)
+
   pub listed-hit : (a q : Record) (ws1 ws2 : List ℕ) (x c i n m j e d : ℕ) (p : ByteOffset) → rule.at x c ≡ firstFit base 1 soundAt (seen r ws) z → i ≡ x - 6 → n ≡ lengthOf (at ws i) → m ≡ portion n z
       → seen a ws1 ≡ takeChunk base (seen r ws) (x - 6) n z → ws2 ≡ emptiedIn ws1 i m → j ≡ rightOf i m % 2 ^ 64 → e ≡ heldName offsets j → q ≡ countedIn a m e → p .0 ≡ heldName payloads i → d ≡ c
       → outcome (Done p d) (seen q ws2) ≡ fromList base 1 soundAt (seen r ws) z (firstFit base 1 soundAt (seen r ws) z)
@@ -269,7 +293,7 @@ module _ (r : Record) (ws : List ℕ) (z : ℕ) (h : Served (seen r ws) z) where
       let short : m < 2 ^ 20 = let u = g .inside in omega arith in
       let end : e ≡ byteOf x + m = end-place x i m j e ei low short m8 ej ee in
       let pay : p .0 ≡ byteOf x + 4 = payload-place x i (p .0) ei low ep in
-      let kept : figuresOf a ≡ figuresOf r = ap (λ (s : State). s .rest) ea ∙ take-rest (seen r ws) (x - 6) n z in
+      let kept = figures-kept r a ws ws1 (x - 6) n z ea in
       let state : seen q ws1 ≡ base .setRest (takeChunk base (seen r ws) (x - 6) n z) (counted (figuresOf r) m (byteOf x + m)) =
       rw (eq, end) (ap (λ (k : Figures). base .setRest (seen a ws1) (counted k m (byteOf x + m))) kept ∙ ap (λ (s : State). base .setRest s (counted (figuresOf r) m (byteOf x + m))) ea) in
       let empty : seen q ws2 ≡ emptied base (base .setRest (takeChunk base (seen r ws) (x - 6) n z) (counted (figuresOf r) m (byteOf x + m))) (x - 6) m =
@@ -304,20 +328,20 @@ module _ (r : Record) (ws : List ℕ) (p : ℕ) where
 
 -- ---- TAKEN BACK
 
-module _ (r : Record) (ws : List ℕ) (l : Link) where
-  pub settled-first : (q : Record) → r .cached .0 ≡ 0 → (l .0 ≡ 0 → ⊥) → q ≡ withCached r l → seen q ws ≡ settled base 1 soundAt (seen r ws) (cachedOf (r .cached .0) ++ l .0 ∷ [])
+module _ (r : Record) (ws : List ℕ) (u : ℕ) (l : Link) where
+  pub settled-first : (q : Record) → r .cached .0 ≡ 0 → (l .0 ≡ 0 → ⊥) → q ≡ withCached r u l → seen q ws ≡ settled base 1 soundAt (seen r ws) u (cachedOf (r .cached .0) ++ l .0 ∷ [])
   unfolding settled
   settled-first q h n eq = rw (eq, eq-eqb _ _ h, ne-eqb _ _ n) refl
 
   pub settled-next : (a q : Record) (ws1 : List ℕ) (i n : ℕ) → (r .cached .0 ≡ 0 → ⊥) → (l .0 ≡ 0 → ⊥) → i ≡ r .cached .0 - 6 → n ≡ lengthOf (at ws i)
-      → seen a ws1 ≡ releaseChunk base (seen r ws) (r .cached .0 - 6) n → q ≡ countedOut a n l
-      → seen q ws1 ≡ settled base 1 soundAt (seen r ws) (cachedOf (r .cached .0) ++ l .0 ∷ [])
+      → seen a ws1 ≡ releaseChunk base (seen r ws) (r .cached .0 - 6) n → q ≡ countedOut a u n l
+      → seen q ws1 ≡ settled base 1 soundAt (seen r ws) u (cachedOf (r .cached .0) ++ l .0 ∷ [])
   unfolding settled
   settled-next a q ws1 i n h k ei en ea eq =
       let v : n ≡ lengthAt base (seen r ws) (r .cached .0) = en ∙ ap (λ (j : ℕ). lengthOf (at ws j)) ei in
       let kept : figuresOf a ≡ figuresOf r = ap (λ (s : State). s .rest) ea ∙ release-rest (seen r ws) (r .cached .0 - 6) n in
-      let state : seen q ws1 ≡ base .setRest (releaseChunk base (seen r ws) (r .cached .0 - 6) n) (released (figuresOf r) (l .0 ∷ []) n) =
-      rw (eq, ne-eqb _ _ k) (ap (λ (f : Figures). base .setRest (seen a ws1) (released f (l .0 ∷ []) n)) kept ∙ ap (λ (s : State). base .setRest s (released (figuresOf r) (l .0 ∷ []) n)) ea) in
+      let state : seen q ws1 ≡ base .setRest (releaseChunk base (seen r ws) (r .cached .0 - 6) n) (released (figuresOf r) u (l .0 ∷ []) n) =
+      rw (eq, ne-eqb _ _ k) (ap (λ (f : Figures). base .setRest (seen a ws1) (released f u (l .0 ∷ []) n)) kept ∙ ap (λ (s : State). base .setRest s (released (figuresOf r) u (l .0 ∷ []) n)) ea) in
       state ∙ rw (ne-eqb _ _ h, ← v) refl
 
   -- the bounds that releasing the cached chunk asks for
@@ -372,7 +396,10 @@ module _ (r : Record) (ws : List ℕ) where
       let u = q .inside in
       omega arith
 
-  pub back-done : (q : Record) (ws1 : List ℕ) (p n l : ℕ) (b : Bool) → b ≡ soundAt (seen r ws) → b ≡ true → n ≡ live base 1 soundAt (seen r ws) p → (n ≡ 0 → ⊥) → l ≡ nameOf (p - 4)
-      → seen q ws1 ≡ settled base 1 soundAt (seen r ws) (cachedOf (r .cached .0) ++ l ∷ []) → says 0 0 0 (seen q ws1) ≡ back base 65529 1 (seen r ws) p
+  pub back-done : (q : Record) (ws1 : List ℕ) (p n u l : ℕ) (b : Bool) → b ≡ soundAt (seen r ws) → b ≡ true → n ≡ live base 1 soundAt (seen r ws) p → (n ≡ 0 → ⊥) → u ≡ r .«in_use» - n → l ≡ nameOf (p - 4)
+      → seen q ws1 ≡ settled base 1 soundAt (seen r ws) u (cachedOf (r .cached .0) ++ l ∷ []) → says 0 0 0 (seen q ws1) ≡ back base 65529 1 (seen r ws) p
   unfolding takeBack
-  back-done q ws1 p n l b e f en d el eq = let d′ : live base 1 soundAt (seen r ws) p ≡ 0 → ⊥ = λ k. d (en ∙ k) in rw (sym e ∙ f, ne-eqb _ _ d′) (ap (says 0 0 0) (eq ∙ rw el refl))
+  back-done q ws1 p n u l b e f en d eu el eq =
+      let d′ : live base 1 soundAt (seen r ws) p ≡ 0 → ⊥ = λ k. d (en ∙ k) in
+      let h : u ≡ r .«in_use» - live base 1 soundAt (seen r ws) p = eu ∙ ap (λ (k : ℕ). r .«in_use» - k) en in
+      rw (sym e ∙ f, ne-eqb _ _ d′) (ap (says 0 0 0) (eq ∙ rw (el, h) refl))

@@ -66,6 +66,7 @@ seen-same r q ws vs e = (same, ap (λ (s : State). s .words) e)
           next = next i;
           words = e i .rest .words;
           «in_use» = e i .rest .inUse;
+          committed = e i .rest .committed;
           peak = e i .rest .peak;
           high = e i .rest .high;
           cached = record { 0 = cached i };

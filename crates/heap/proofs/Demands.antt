@@ -8,6 +8,7 @@
 -- threshold; below 512 bytes at most one free chunk is compared.
 --     demand-2-audit-exact          the audit says yes exactly for a sound pair, and a sound pair has one layout, one order of each list
 --     demand-2-made-sound, demand-2-sound-kept
+--     demand-2-figures-sums, demand-2-figures-ordered    in use is the sum of live lengths, committed the sum of used ones; in use ≤ committed ≤ peak ≤ high water
 --     demand-2-damaged-exact, demand-2-sizes-exact, demand-2-no-fit-exact, demand-2-not-live-exact      each refusal exactly when
 --     demand-2-compared, demand-2-position    the compared count
 -- Demand 3. Two heaps over any two memories, same requests, tasks writing what they like into live payloads: the same answers and the same tags and links;
@@ -23,16 +24,18 @@ use lib.ListN.{length}
 use Rattle.words.specs.Links.{narrow}
 use Rattle.words.specs.Sizes.{roundedOf}
 use Rattle.words.specs.Tags.{at}
-use Rattle.rules.specs.Rules.{Outcome}
+use Rattle.rules.specs.Chunks.{usedSum}
+use Rattle.rules.specs.Rules.{Figures, Outcome}
 use Rattle.rules.specs.Making.{State, make}
 use Rattle.rules.specs.Machine.{Model, Request, ask, give, madeM}
 use Rattle.rules.specs.Machine as rule
-use Rattle.rules.specs.Sound.{Accepted, Shows, Sound}
+use Rattle.rules.specs.Sound.{Accepted, liveSum, Shows, Sound}
 use Rattle.rules.specs.Demands.{NoFit, FromCache, FromList, LiveAt, InPayload}
 use Rattle.rules.specs.TwoRuns.{Event, requests, replies, run}
 use Rattle.rules.specs.Runs.{machine, acts, Same}
 use Rattle.rules.specs.Claims.{Demands, Iff, Allowable}
 use Rattle.rules.proofs.Proved.{narrow-demands, narrow-making}
+use Rattle.audit.specs.Shown.{cachedOf}
 use Rattle.heap.specs.declared.record.Record.{Record}
 use Rattle.heap.specs.declared.calls.Out.{Out}
 use Rattle.heap.specs.Seen.{seen, base, emptyRecord}
@@ -111,6 +114,19 @@ pub demand-2-sound-kept : (r : Record) (ws vs : List ℕ) (k : Request) (o : Out
     → SoundIn (o .rec) vs
 demand-2-sound-kept r ws vs (ask n) o e h = subst (Sound base 65529 1) (sym (ap (λ (q : Outcome State). q .after) e)) (ours .kept .0 (seen r ws) n h)
 demand-2-sound-kept r ws vs (give p) o e h = subst (Sound base 65529 1) (sym (ap (λ (q : Outcome State). q .after) e)) (ours .kept .1 (seen r ws) p h)
+
+pub demand-2-figures-sums : (r : Record) (ws : List ℕ) (m : Model)
+    → ShowsIn r ws m
+    → (r .«in_use» ≡ liveSum (cachedOf (r .cached .0)) 0 (m .cs)) × (r .committed ≡ usedSum (m .cs))
+demand-2-figures-sums r ws m h = (
+  ap (λ (f : Figures). f .inUse) (h .figs) ∙ h .right .inUse ∙ ap (λ (f : Figures). liveSum (f .cached) 0 (m .cs)) (sym (h .figs)),
+  ap (λ (f : Figures). f .committed) (h .figs) ∙ h .right .committed,
+)
+
+pub demand-2-figures-ordered : (r : Record) (ws : List ℕ)
+    → SoundIn r ws
+    → (r .«in_use» ≤ r .committed) × (r .committed ≤ r .peak) × (r .peak ≤ r .high)
+demand-2-figures-ordered r ws h = ours .ordered (seen r ws) h
 
 module _ (r : Record) (ws vs : List ℕ) (n : ℕ) (o : Out) where
   -- 1 exactly for size 0, 2 exactly above 4,294,967,284, whatever the record and the words

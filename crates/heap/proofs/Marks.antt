@@ -54,7 +54,7 @@ module _ (h n : ℕ) (hh : h < 2 ^ 32) (hn : n < 2 ^ 32) where
 abbrev pub raised : ℕ → Record
 raised h =
     let r = emptyRecord in
-    record { prev = r .prev; next = r .next; words = 0; «in_use» = 0; peak = 0; high = h; cached = r .cached; fresh = true }
+    record { prev = r .prev; next = r .next; words = 0; «in_use» = 0; committed = 0; peak = 0; high = h; cached = r .cached; fresh = true }
 
 -- document 01, "The mark"
 pub record Example : Type 0 where

@@ -9,7 +9,7 @@ use Rattle.heap.specs.declared.record.Marked.{Marked}
 
 -- the record with its flag off
 abbrev pub calm : Record → Record
-calm r = record { prev = r .prev; next = r .next; words = r .words; «in_use» = r .«in_use»; peak = r .peak; high = r .high; cached = r .cached; fresh = false }
+calm r = record { prev = r .prev; next = r .next; words = r .words; «in_use» = r .«in_use»; committed = r .committed; peak = r .peak; high = r .high; cached = r .cached; fresh = false }
 
 abbrev pub marked : Bool → Record → ℕ → Marked
 marked false r stacklets = record { mark = Unchanged; rec = r }

@@ -21,7 +21,7 @@ base = ops narrow
 
 -- what the record holds beside its links
 abbrev pub figuresOf : Record → Figures
-figuresOf r = record { words = r .words; cached = cachedOf (r .cached .0); inUse = r .«in_use»; peak = r .peak; high = r .high; flag = r .fresh }
+figuresOf r = record { words = r .words; cached = cachedOf (r .cached .0); inUse = r .«in_use»; committed = r .committed; peak = r .peak; high = r .high; flag = r .fresh }
 
 -- record and words
 abbrev pub seen : Record → List ℕ → State
@@ -29,13 +29,14 @@ seen r ws = record { prevs = numbers (r .prev); nexts = numbers (r .next); words
 
 -- the record with a part changed
 abbrev pub withPrevs : Record → List Link → Record
-withPrevs r ls = record { prev = ls; next = r .next; words = r .words; «in_use» = r .«in_use»; peak = r .peak; high = r .high; cached = r .cached; fresh = r .fresh }
+withPrevs r ls = record { prev = ls; next = r .next; words = r .words; «in_use» = r .«in_use»; committed = r .committed; peak = r .peak; high = r .high; cached = r .cached; fresh = r .fresh }
 
 abbrev pub withNexts : Record → List Link → Record
-withNexts r ls = record { prev = r .prev; next = ls; words = r .words; «in_use» = r .«in_use»; peak = r .peak; high = r .high; cached = r .cached; fresh = r .fresh }
+withNexts r ls = record { prev = r .prev; next = ls; words = r .words; «in_use» = r .«in_use»; committed = r .committed; peak = r .peak; high = r .high; cached = r .cached; fresh = r .fresh }
 
-abbrev pub withCached : Record → Link → Record
-withCached r l = record { prev = r .prev; next = r .next; words = r .words; «in_use» = r .«in_use»; peak = r .peak; high = r .high; cached = l; fresh = r .fresh }
+-- i bytes in use and the chunk l cached, link 0 for none
+abbrev pub withCached : Record → ℕ → Link → Record
+withCached r i l = record { prev = r .prev; next = r .next; words = r .words; «in_use» = i; committed = r .committed; peak = r .peak; high = r .high; cached = l; fresh = r .fresh }
 
 -- a link stored at a sentinel's place; nothing where l is a chunk's link
 unfoldable pub stored : List Link → ℕ → Link → List Link
@@ -49,14 +50,14 @@ link n = record { 0 = n }
 abbrev pub emptyRecord : Record
 emptyRecord =
     let zeros = link 0 ∷ link 0 ∷ link 0 ∷ link 0 ∷ link 0 ∷ link 0 ∷ [] in
-    record { prev = zeros; next = zeros; words = 0; «in_use» = 0; peak = 0; high = 0; cached = link 0; fresh = false }
+    record { prev = zeros; next = zeros; words = 0; «in_use» = 0; committed = 0; peak = 0; high = 0; cached = link 0; fresh = false }
 
 abbrev pub freshRecord : ℕ → Record
 freshRecord n =
     let selves = link 0 ∷ link 1 ∷ link 2 ∷ link 3 ∷ link 4 ∷ link 5 ∷ [] in
-    record { prev = selves; next = selves; words = n; «in_use» = 0; peak = 0; high = 0; cached = link 0; fresh = false }
+    record { prev = selves; next = selves; words = n; «in_use» = 0; committed = 0; peak = 0; high = 0; cached = link 0; fresh = false }
 
--- the counters after a chunk of m bytes that ends at byte e came from a list; after n bytes were released and the chunk l cached
+-- the counters after a chunk of m bytes that ends at byte e came from a list
 abbrev pub countedIn : Record → ℕ → ℕ → Record
 countedIn r m e =
     record {
@@ -64,11 +65,13 @@ countedIn r m e =
       next = r .next;
       words = r .words;
       «in_use» = r .«in_use» + m;
-      peak = max (r .peak) (r .«in_use» + m);
+      committed = r .committed + m;
+      peak = max (r .peak) (r .committed + m);
       high = max (r .high) e;
       cached = r .cached;
       fresh = pick (ltb (r .high) e) true (r .fresh);
     }
 
-abbrev pub countedOut : Record → ℕ → Link → Record
-countedOut r n l = record { prev = r .prev; next = r .next; words = r .words; «in_use» = r .«in_use» - n; peak = r .peak; high = r .high; cached = l; fresh = r .fresh }
+-- after n bytes were released, with i bytes in use and the chunk l cached
+abbrev pub countedOut : Record → ℕ → ℕ → Link → Record
+countedOut r i n l = record { prev = r .prev; next = r .next; words = r .words; «in_use» = i; committed = r .committed - n; peak = r .peak; high = r .high; cached = l; fresh = r .fresh }

@@ -16,6 +16,7 @@ use super::empty::clear_payload;
 use super::live::used_length;
 use super::merge::set_free_chunk_hdr_ftr;
 use super::record::Record;
+use super::record::less;
 use super::search::Found;
 use super::search::search_first_fit;
 use super::split::portion_of;
@@ -54,6 +55,7 @@ impl Record {
         let figures = Figures {
             words: self.words,
             in_use: self.in_use,
+            committed: self.committed,
             peak: self.peak,
             high: self.high,
             cached,
@@ -137,7 +139,8 @@ impl Record {
             };
         }
         let l = words::hdr_to_link(words::payload_to_hdr(payload));
-        let rec = self.settle(heap, l);
+        let held = less(self.in_use, length);
+        let rec = self.settle(heap, held, l);
         Out {
             answer: Answer::Done(ByteOffset(0), 0),
             rec,
@@ -171,18 +174,18 @@ impl Record {
         used_length(heap, p - 4)
     }
 
-    // Caches the chunk l; the chunk that was cached before is released.
-    fn settle(self, heap: &mut [u32], l: Link) -> Record
+    // Caches the chunk l, `held` bytes being in use then; the chunk that was cached before is released.
+    fn settle(self, heap: &mut [u32], held: u32, l: Link) -> Record
         requires { ⌜ (soundAt (seen self (now heap)) ≡ true) × (6 ≤ l .0) ⌝ }
-        ensures { λ r. ⌜ seen r (now (heap .exit)) ≡ settled base 1 soundAt (seen self (now (heap .entry))) (cachedOf (self .cached .0) ++ l .0 ∷ []) ⌝ }
+        ensures { λ r. ⌜ seen r (now (heap .exit)) ≡ settled base 1 soundAt (seen self (now (heap .entry))) held (cachedOf (self .cached .0) ++ l .0 ∷ []) ⌝ }
     {
         let old = self.cached;
         if old.0 == 0 {
-            return self.with_cached(l);
+            return self.with_cached(held, l);
         }
         let n = words::get_hdr_chunk_size(heap, words::link_to_hdr(old));
         let a = self.release_chunk(heap, old, n);
-        a.count_out(n, l)
+        a.count_out(held, n, l)
     }
 
     // Whether the cached chunk, if there is one, serves a rounded size: long enough, and at most SLACK bytes too long.
@@ -210,9 +213,10 @@ impl Record {
             let hdr = words::link_to_hdr(self.cached);
             let n = words::get_hdr_chunk_size(heap, hdr);
             clear_payload(heap, hdr, n);
+            let held = self.in_use + n;
             return Out {
                 answer: Answer::Done(words::hdr_to_payload(hdr), 0),
-                rec: self.with_cached(Link(0)),
+                rec: self.with_cached(held, Link(0)),
             };
         }
         self.serve_listed(heap, z)

@@ -1,4 +1,5 @@
-// The record: what heap.rs keeps in statics (SENTINELS, CACHED, CUR_ALLOC_SIZE, MAX_ALLOC_SIZE, HIGH_WATER_MARK and its flag).
+// The record: what heap.rs keeps in statics (SENTINELS, CACHED, CUR_ALLOC_SIZE, MAX_ALLOC_SIZE, HIGH_WATER_MARK and its flag). CUR_ALLOC_SIZE is `committed` here;
+// `in_use` is what tasks hold of it.
 //
 // It is plain data, passed and handed back by value; all bytes zero is the empty record, as a kernel's static memory is at reset.
 ghost use mathlib.Core.Path.{_≡_};
@@ -18,9 +19,11 @@ pub struct Record {
     pub next: [Link; 6],
     // how many words the heap has; 0 before a heap is made
     pub words: u32,
-    // the sum of used lengths, that of the cached chunk included
+    // bytes in use, as tasks hold them: the sum of live lengths
     pub in_use: u32,
-    // the largest that sum has been
+    // bytes committed: the sum of used lengths, that of the cached chunk included
+    pub committed: u32,
+    // the largest that committed has been
     pub peak: u32,
     // the largest end, in bytes, of a chunk that was handed out
     pub high: u32,
@@ -66,6 +69,7 @@ impl Record {
             next: [Link(0); 6],
             words: 0,
             in_use: 0,
+            committed: 0,
             peak: 0,
             high: 0,
             cached: Link(0),
@@ -82,6 +86,7 @@ impl Record {
             next: [Link(0), Link(1), Link(2), Link(3), Link(4), Link(5)],
             words,
             in_use: 0,
+            committed: 0,
             peak: 0,
             high: 0,
             cached: Link(0),
@@ -89,14 +94,21 @@ impl Record {
         }
     }
 
-    // Bytes in use.
+    // Bytes in use, as tasks hold them: a chunk that is cached is not among them.
     pub fn in_use(self) -> u32
         ensures { λ r. ⌜ r ≡ self .«in_use» ⌝ }
     {
         self.in_use
     }
 
-    // The most bytes that were in use.
+    // Bytes committed: those in use, and those of the cached chunk.
+    pub fn committed(self) -> u32
+        ensures { λ r. ⌜ r ≡ self .committed ⌝ }
+    {
+        self.committed
+    }
+
+    // The most bytes that were committed.
     pub fn peak(self) -> u32
         ensures { λ r. ⌜ r ≡ self .peak ⌝ }
     {
@@ -154,32 +166,35 @@ impl Record {
         self
     }
 
-    // The record with another cached chunk; link 0 for none.
-    pub(crate) fn with_cached(mut self, l: Link) -> Record
-        ensures { λ r. ⌜ r ≡ withCached self l ⌝ }
+    // The record with `held` bytes in use and another cached chunk, link 0 for none; committed stays.
+    pub(crate) fn with_cached(mut self, held: u32, l: Link) -> Record
+        ensures { λ r. ⌜ r ≡ withCached self held l ⌝ }
     {
+        self.in_use = held;
         self.cached = l;
         self
     }
 
     // The counters after a chunk of m bytes that ends at byte `end` came from a list.
     pub(crate) fn count_in(mut self, m: u32, end: u32) -> Record
-        requires { ⌜ self .«in_use» + m < 2 ^ 32 ⌝ }
+        requires { ⌜ (self .«in_use» + m < 2 ^ 32) × (self .committed + m < 2 ^ 32) ⌝ }
         ensures { λ r. ⌜ r ≡ countedIn self m end ⌝ }
     {
-        let sum = self.in_use + m;
-        self.in_use = sum;
+        self.in_use += m;
+        let sum = self.committed + m;
+        self.committed = sum;
         self.peak = larger(self.peak, sum);
         self.fresh = risen(self.high, end, self.fresh);
         self.high = larger(self.high, end);
         self
     }
 
-    // The counters after a chunk of n bytes left the cache for a list, and a newer one came into it.
-    pub(crate) fn count_out(mut self, n: u32, newer: Link) -> Record
-        ensures { λ r. ⌜ r ≡ countedOut self n newer ⌝ }
+    // The counters after a chunk of n bytes left the cache for a list, a newer one came into it, and `held` bytes are in use.
+    pub(crate) fn count_out(mut self, held: u32, n: u32, newer: Link) -> Record
+        ensures { λ r. ⌜ r ≡ countedOut self held n newer ⌝ }
     {
-        self.in_use = less(self.in_use, n);
+        self.in_use = held;
+        self.committed = less(self.committed, n);
         self.cached = newer;
         self
     }

@@ -9,7 +9,7 @@ audit-requires : tie.Need-audit-requires
 audit-requires c κs = search needs
 
 returns : tie.Need-returns
-returns c = c .audit .ensures ∙ sound-flag _ _ _ _ _ _ _ _ _ _
+returns c = c .audit .ensures ∙ sound-flag _ _ _ _ _ _ _ _ _ _ _
 
 pub audit-spec : {M : Type 1} → statement M
 audit-spec = tie.close (tie.spec audit-requires returns)

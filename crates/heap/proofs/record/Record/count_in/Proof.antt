@@ -3,6 +3,9 @@ use borrow.Author.Needs.{needs}
 use Rattle.heap.proofs.record.Record.count_in.Statement.{statement}
 use Rattle.heap.proofs.record.Record.count_in.Tie as tie
 
+add-self : tie.Need-add-self
+add-self c = search needs
+
 add-sum : tie.Need-add-sum
 add-sum c = search needs
 
@@ -20,4 +23,4 @@ returns c = cc
 
 pub count-in-spec : {M : Type 1} → statement M
 count-in-spec =
-    tie.close (tie.spec add-sum larger-requires risen-requires larger-requires-2 returns)
+    tie.close (tie.spec add-self add-sum larger-requires risen-requires larger-requires-2 returns)

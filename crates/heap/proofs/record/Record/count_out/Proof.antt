@@ -1,4 +1,4 @@
--- `heap::record::Record::count_out` meets its contract: bytes in use is what `less` ensures, and the cached chunk is l.
+-- `heap::record::Record::count_out` meets its contract: bytes committed is what `less` ensures, the others are handed over.
 use borrow.Author.Needs.{needs}
 use Rattle.heap.proofs.record.Record.count_out.Statement.{statement}
 use Rattle.heap.proofs.record.Record.count_out.Tie as tie

@@ -1,8 +1,9 @@
 -- `heap::record::Record::serve` meets its contract: the cached chunk whole, its payload emptied, else what the lists give.
 use borrow.Author.Needs.{needs}
 use native.Mathlib.Omega.{arith}
-use Prim.Native.Nat.{_<_}
-use Rattle.heap.proofs.Answers.{served-cached, served-listed}
+use mathlib.Core.Path.{refl}
+use Prim.Native.Nat.{_<_, _^_}
+use Rattle.heap.proofs.Answers.{served-safe, served-cached, served-listed}
 use Rattle.heap.proofs.record.Record.serve.Statement.{statement}
 use Rattle.heap.proofs.record.Record.serve.Tie as tie
 
@@ -18,6 +19,12 @@ get-hdr-chunk-size-requires c κs = search needs
 clear-payload-requires : tie.Need-clear-payload-requires
 clear-payload-requires c κs = search needs
 
+add-held : tie.Need-add-held
+add-held c =
+    let below : c .before .before .before .before .before .before .before .before .before .before .before .before .args .self .committed < 2 ^ 32 = omega (arith, c .before .before .before .before .before .before .before .before .before .before .before .before .good) in
+    let sum = served-safe (c .before .before .before .before .before .before .before .before .before .before .before .before .args .self) (c .before .before .before .before .before .before .before .before .before .before .before .before .args .heap .now) (c .before .before .before .before .before .before .before .before .before .before .before .before .args .z) _ _ _ (c .before .before .before .before .before .before .before .before .before .before .before .before .pre) below (c .before .before .before .before .before .before .before .before .before .cache-serves .ensures) (c .before .before .before .before .before .before .before .before .if1 .taken) (c .before .before .before .before .before .before .before .link-to-hdr .ensures) (c .before .before .before .before .before .get-hdr-chunk-size .ensures) in
+    record { fits = omega (arith, sum) }
+
 hdr-to-payload-requires : tie.Need-hdr-to-payload-requires
 hdr-to-payload-requires c κs = search needs
 
@@ -29,9 +36,9 @@ same-length c = search needs
 
 returns : tie.Need-returns
 returns c =
-    let below : c .before .before .before .before .before .before .before .before .before .before .before .before .before .args .self .cached .0 < 65536 = omega (arith, c .before .before .before .before .before .before .before .before .before .before .before .before .before .good) in
-    served-cached (c .before .before .before .before .before .before .before .before .before .before .before .before .before .args .self) (c .before .before .before .before .before .before .before .before .before .before .before .before .before .args .heap .now) (c .before .before .before .before .before .before .before .before .before .before .before .before .before .args .z) (c .with-cached .result) _ _ _ _ _ below (c .before .before .before .before .before .before .before .before .before .before .cache-serves .ensures) (c .before .before .before .before .before .before .before .before .before .if1 .taken) (c .before .before .before .before .before .before .before .before .link-to-hdr .ensures)
-    (c .before .before .before .before .before .before .get-hdr-chunk-size .ensures) (c .before .before .before .before .clear-payload .ensures) (c .before .hdr-to-payload .ensures) (c .with-cached .ensures)
+    let below : c .before .before .before .before .before .before .before .before .before .before .before .before .before .before .args .self .cached .0 < 65536 = omega (arith, c .before .before .before .before .before .before .before .before .before .before .before .before .before .before .good) in
+    served-cached (c .before .before .before .before .before .before .before .before .before .before .before .before .before .before .args .self) (c .before .before .before .before .before .before .before .before .before .before .before .before .before .before .args .heap .now) (c .before .before .before .before .before .before .before .before .before .before .before .before .before .before .args .z) (c .with-cached .result) _ _ _ _ _ _ below (c .before .before .before .before .before .before .before .before .before .before .before .cache-serves .ensures) (c .before .before .before .before .before .before .before .before .before .before .if1 .taken) (c .before .before .before .before .before .before .before .before .before .link-to-hdr .ensures)
+    (c .before .before .before .before .before .before .before .get-hdr-chunk-size .ensures) (c .before .before .before .before .before .clear-payload .ensures) refl (c .before .hdr-to-payload .ensures) (c .with-cached .ensures)
 
 serve-listed-requires : tie.Need-serve-listed-requires
 serve-listed-requires c κs = search needs
@@ -50,6 +57,7 @@ serve-spec =
     link-to-hdr-requires
     get-hdr-chunk-size-requires
     clear-payload-requires
+    add-held
     hdr-to-payload-requires
     with-cached-requires
     same-length

@@ -6,7 +6,7 @@ use Rattle.heap.specs.declared.search.Found.{Found}
 use Rattle.heap.specs.Found.{told}
 use Rattle.heap.specs.Answer.{soundAt}
 use Rattle.heap.proofs.Walks.{first-fit-is}
-use Rattle.heap.proofs.Answers.{nowhere-safe, take-safe, portion-room, in-use-kept, listed-lost, listed-nowhere, listed-hit}
+use Rattle.heap.proofs.Answers.{nowhere-safe, take-safe, count-safe, listed-lost, listed-nowhere, listed-hit}
 use Rattle.heap.proofs.record.Record.serve_listed.Statement.{statement}
 use Rattle.heap.proofs.record.Record.serve_listed.Tie as tie
 
@@ -52,10 +52,8 @@ hdr-to-offset-requires c κs = search needs
 
 count-in-requires : tie.Need-count-in-requires
 count-in-requires c κs =
-    let safe = take-safe (c .before .before .before .before .before .before .before .before .before .before .before .before .before .before .before .before .before .before .before .before .before .args .self) (c .before .before .before .before .before .before .before .before .before .before .before .before .before .before .before .before .before .before .before .before .before .args .heap .now) (c .before .before .before .before .before .before .before .before .before .before .before .before .before .before .before .before .before .before .before .before .before .args .z) (c .before .before .before .before .before .before .before .before .before .before .before .before .before .before .before .before .before .before .before .before .before .pre) _ _ _ _ (sym (ap (λ (q : Found). told q) (c .before .before .before .before .before .before .before .before .before .before .before .before .before .before .before .found2 .given .1)) ∙ c .before .before .before .before .before .before .before .before .before .before .before .before .before .before .before .before .before .search-first-fit .ensures ∙ sym (first-fit-is soundAt (c .before .before .before .before .before .before .before .before .before .before .before .before .before .before .before .before .before .before .before .before .before .args .self) (c .before .before .before .before .before .before .before .before .before .before .before .before .before .before .before .before .before .before .before .before .before .args .heap .now) (c .before .before .before .before .before .before .before .before .before .before .before .before .before .before .before .before .before .before .before .before .before .args .z))) (c .before .before .before .before .before .before .before .before .before .before .before .before .before .link-to-hdr .ensures) (c .before .before .before .before .before .before .before .before .before .before .before .get-hdr-chunk-size .ensures) in
-    let part = portion-room (c .before .before .before .before .before .before .before .before .before .before .before .before .before .before .before .before .before .before .before .before .before .args .self) (c .before .before .before .before .before .before .before .before .before .before .before .before .before .before .before .before .before .before .before .before .before .args .heap .now) (c .before .before .before .before .before .before .before .before .before .before .before .before .before .before .before .before .before .before .before .before .before .args .z) (c .before .before .before .before .before .before .before .before .before .before .before .before .before .before .before .before .before .before .before .before .before .pre) _ _ (c .before .before .before .before .before .before .before .before .before .before .portion-of .ensures) in
-    let kept = in-use-kept (c .before .before .before .before .before .before .before .before .before .before .before .before .before .before .before .before .before .before .before .before .before .args .self) (c .before .before .before .before .before .before .before .before .take-chunk .result) _ _ _ _ _ (c .before .before .before .before .before .before .before .before .take-chunk .ensures) in
-    omega (arith, safe .2, part, kept)
+    count-safe (c .before .before .before .before .before .before .before .before .before .before .before .before .before .before .before .before .before .before .before .before .before .args .self) (c .before .before .before .before .before .before .before .before .before .before .before .before .before .before .before .before .before .before .before .before .before .args .heap .now) (c .before .before .before .before .before .before .before .before .before .before .before .before .before .before .before .before .before .before .before .before .before .args .z) (c .before .before .before .before .before .before .before .before .before .before .before .before .before .before .before .before .before .before .before .before .before .pre) (c .before .before .before .before .before .before .before .before .take-chunk .result) _ _ _ _ _ _ (sym (ap (λ (q : Found). told q) (c .before .before .before .before .before .before .before .before .before .before .before .before .before .before .before .found2 .given .1)) ∙ c .before .before .before .before .before .before .before .before .before .before .before .before .before .before .before .before .before .search-first-fit .ensures ∙ sym (first-fit-is soundAt (c .before .before .before .before .before .before .before .before .before .before .before .before .before .before .before .before .before .before .before .before .before .args .self) (c .before .before .before .before .before .before .before .before .before .before .before .before .before .before .before .before .before .before .before .before .before .args .heap .now) (c .before .before .before .before .before .before .before .before .before .before .before .before .before .before .before .before .before .before .before .before .before .args .z))) (c .before .before .before .before .before .before .before .before .before .before .before .before .before .link-to-hdr .ensures) (c .before .before .before .before .before .before .before .before .before .before .before .get-hdr-chunk-size .ensures)
+    (c .before .before .before .before .before .before .before .before .before .before .portion-of .ensures) (c .before .before .before .before .before .before .before .before .take-chunk .ensures)
 
 hdr-to-payload-requires : tie.Need-hdr-to-payload-requires
 hdr-to-payload-requires c κs = search needs
@@ -63,7 +61,7 @@ hdr-to-payload-requires c κs = search needs
 cast-t30 : tie.Need-cast-t30
 cast-t30 c =
     let safe = take-safe (c .before .before .before .before .before .before .before .before .before .before .before .before .before .before .before .before .before .before .before .before .before .before .before .args .self) (c .before .before .before .before .before .before .before .before .before .before .before .before .before .before .before .before .before .before .before .before .before .before .before .args .heap .now) (c .before .before .before .before .before .before .before .before .before .before .before .before .before .before .before .before .before .before .before .before .before .before .before .args .z) (c .before .before .before .before .before .before .before .before .before .before .before .before .before .before .before .before .before .before .before .before .before .before .before .pre) _ _ _ _ (sym (ap (λ (q : Found). told q) (c .before .before .before .before .before .before .before .before .before .before .before .before .before .before .before .before .before .found2 .given .1)) ∙ c .before .before .before .before .before .before .before .before .before .before .before .before .before .before .before .before .before .before .before .search-first-fit .ensures ∙ sym (first-fit-is soundAt (c .before .before .before .before .before .before .before .before .before .before .before .before .before .before .before .before .before .before .before .before .before .before .before .args .self) (c .before .before .before .before .before .before .before .before .before .before .before .before .before .before .before .before .before .before .before .before .before .before .before .args .heap .now) (c .before .before .before .before .before .before .before .before .before .before .before .before .before .before .before .before .before .before .before .before .before .before .before .args .z))) (c .before .before .before .before .before .before .before .before .before .before .before .before .before .before .before .link-to-hdr .ensures) (c .before .before .before .before .before .before .before .before .before .before .before .before .before .get-hdr-chunk-size .ensures) in
-    record { fits = omega (arith, safe .3) }
+    record { fits = omega (arith, safe .2) }
 
 same-length : tie.Need-same-length
 same-length c = search needs

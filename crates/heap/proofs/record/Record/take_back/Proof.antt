@@ -31,18 +31,21 @@ payload-to-hdr-requires c κs = search needs
 hdr-to-link-requires : tie.Need-hdr-to-link-requires
 hdr-to-link-requires c κs = search needs
 
+less-requires : tie.Need-less-requires
+less-requires c κs = search needs
+
 settle-requires : tie.Need-settle-requires
 settle-requires c κs =
-    let name = live-name (c .before .before .before .before .before .before .before .before .before .before .args .self) (c .before .before .before .before .before .before .before .before .before .before .args .heap .now) _ _ _ _ _ (c .before .before .before .before .before .before .before .audit .ensures) (not-false _ (c .before .before .before .before .before .before .if1 .left)) (c .before .before .before .before .live-length .ensures) (c .before .before .before .if2 .left) (c .before .before .payload-to-hdr .ensures) (c .before .hdr-to-link .ensures) in
-    (sym (c .before .before .before .before .before .before .before .audit .ensures) ∙ not-false _ (c .before .before .before .before .before .before .if1 .left), omega arith)
+    let name = live-name (c .before .before .before .before .before .before .before .before .before .before .before .args .self) (c .before .before .before .before .before .before .before .before .before .before .before .args .heap .now) _ _ _ _ _ (c .before .before .before .before .before .before .before .before .audit .ensures) (not-false _ (c .before .before .before .before .before .before .before .if1 .left)) (c .before .before .before .before .before .live-length .ensures) (c .before .before .before .before .if2 .left) (c .before .before .before .payload-to-hdr .ensures) (c .before .before .hdr-to-link .ensures) in
+    (sym (c .before .before .before .before .before .before .before .before .audit .ensures) ∙ not-false _ (c .before .before .before .before .before .before .before .if1 .left), omega arith)
 
 same-length-3 : tie.Need-same-length-3
 same-length-3 c = search needs
 
 returns-3 : tie.Need-returns-3
 returns-3 c =
-    let name = live-name (c .before .before .before .before .before .before .before .before .before .before .before .before .before .args .self) (c .before .before .before .before .before .before .before .before .before .before .before .before .before .args .heap .now) _ _ _ _ _ (c .before .before .before .before .before .before .before .before .before .before .audit .ensures) (not-false _ (c .before .before .before .before .before .before .before .before .before .if1 .left)) (c .before .before .before .before .before .before .before .live-length .ensures) (c .before .before .before .before .before .before .if2 .left) (c .before .before .before .before .before .payload-to-hdr .ensures) (c .before .before .before .before .hdr-to-link .ensures) in
-    back-done (c .before .before .before .before .before .before .before .before .before .before .before .before .before .args .self) (c .before .before .before .before .before .before .before .before .before .before .before .before .before .args .heap .now) (c .before .before .settle .result) _ _ _ _ _ (c .before .before .before .before .before .before .before .before .before .before .audit .ensures) (not-false _ (c .before .before .before .before .before .before .before .before .before .if1 .left)) (c .before .before .before .before .before .before .before .live-length .ensures) (c .before .before .before .before .before .before .if2 .left) name (c .before .before .settle .ensures)
+    let name = live-name (c .before .before .before .before .before .before .before .before .before .before .before .before .before .before .args .self) (c .before .before .before .before .before .before .before .before .before .before .before .before .before .before .args .heap .now) _ _ _ _ _ (c .before .before .before .before .before .before .before .before .before .before .before .audit .ensures) (not-false _ (c .before .before .before .before .before .before .before .before .before .before .if1 .left)) (c .before .before .before .before .before .before .before .before .live-length .ensures) (c .before .before .before .before .before .before .before .if2 .left) (c .before .before .before .before .before .before .payload-to-hdr .ensures) (c .before .before .before .before .before .hdr-to-link .ensures) in
+    back-done (c .before .before .before .before .before .before .before .before .before .before .before .before .before .before .args .self) (c .before .before .before .before .before .before .before .before .before .before .before .before .before .before .args .heap .now) (c .before .before .settle .result) _ _ _ _ _ _ (c .before .before .before .before .before .before .before .before .before .before .before .audit .ensures) (not-false _ (c .before .before .before .before .before .before .before .before .before .before .if1 .left)) (c .before .before .before .before .before .before .before .before .live-length .ensures) (c .before .before .before .before .before .before .before .if2 .left) (c .before .before .before .before .less .ensures) name (c .before .before .settle .ensures)
 
 pub take-back-spec : {M : Type 1} → statement M
 take-back-spec =
@@ -56,6 +59,7 @@ take-back-spec =
     returns-2
     payload-to-hdr-requires
     hdr-to-link-requires
+    less-requires
     settle-requires
     same-length-3
     returns-3)
