@@ -1,7 +1,7 @@
 // The kernel's door: what firmware links (include/lischemur.h declares it for C).
 //
 // Making, handing out and taking back change a record where it lies; document 01 gives this door to no other call. The others take the
-// record by value, which on x86-64 is how C passes and gets back a struct of this size: the audit and the three readers leave it alone, and
+// record by value, which on x86-64 is how C passes and gets back a struct of this size: the audit and the four readers leave it alone, and
 // the mark hands it back with its flag off. Each agrees with the call of crate `heap` that it stands for, and accepts any record, any words
 // and any number. A bool that C reads is a number here, 1 or 0.
 //
@@ -76,7 +76,7 @@ pub extern "C" fn lischemur_mark(rec: Record, stacklets: u32) -> Marking
     marking_of(mark, marked.rec)
 }
 
-// Bytes in use.
+// Bytes in use, as tasks hold them.
 #[no_mangle]
 pub extern "C" fn lischemur_in_use(rec: Record) -> u32
     ensures { λ r. ⌜ r ≡ rec .«in_use» ⌝ }
@@ -84,7 +84,15 @@ pub extern "C" fn lischemur_in_use(rec: Record) -> u32
     rec.in_use()
 }
 
-// The most bytes that were in use.
+// Bytes committed: those in use, and those of the cached chunk.
+#[no_mangle]
+pub extern "C" fn lischemur_committed(rec: Record) -> u32
+    ensures { λ r. ⌜ r ≡ rec .committed ⌝ }
+{
+    rec.committed()
+}
+
+// The most bytes that were committed.
 #[no_mangle]
 pub extern "C" fn lischemur_peak(rec: Record) -> u32
     ensures { λ r. ⌜ r ≡ rec .peak ⌝ }
