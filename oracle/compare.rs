@@ -357,6 +357,7 @@ fn changes() -> Vec<Box<dyn Fn(&mut Record)>> {
     let mut all: Vec<Box<dyn Fn(&mut Record)>> = vec![
         Box::new(|r| r.words ^= 1),
         Box::new(|r| r.in_use ^= 8),
+        Box::new(|r| r.committed ^= 8),
         Box::new(|r| r.peak ^= 8),
         Box::new(|r| r.high ^= 8),
         Box::new(|r| r.cached ^= 1),

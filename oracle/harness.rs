@@ -219,6 +219,13 @@ impl Harness {
         }
     }
 
+    /// The lengths of the chunks that tasks hold, by the payloads that they got and did not give back. The Rust has no such figure:
+    /// what it calls in use is what the rules call committed.
+    fn held(&self) -> u32 {
+        let lengths = self.live.iter().map(|at| self.oracle.header(at - 4).0);
+        lengths.sum()
+    }
+
     /// The whole state on one line.
     fn dump(&self) -> String {
         let oracle = &self.oracle;
@@ -231,8 +238,9 @@ impl Harness {
             .collect();
         let lists: Vec<String> = (0..6).map(|class| self.list(class)).collect();
         format!(
-            "words={} in_use={} peak={} high={} fresh={} cached={} heads={} lists={} memory={}",
+            "words={} in_use={} committed={} peak={} high={} fresh={} cached={} heads={} lists={} memory={}",
             oracle.words(),
+            self.held(),
             oracle.in_use(),
             oracle.peak(),
             oracle.high(),

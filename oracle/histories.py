@@ -129,12 +129,35 @@ class LeavesTheRemaindersLeftBitClear(model.Heap):
         self.write(chunk.w, chunk.length + 2 + 1)
 
 
-class LowersInUseWhenOnlyCaching(model.Heap):
+class LowersCommittedWhenOnlyCaching(model.Heap):
     def take_back(self, offset):
         chunk, empty = self.live(offset) if self.sound() else None, self.record.cached == 0
         answer = super().take_back(offset)
-        self.record.in_use -= chunk.length if chunk and empty else 0
+        self.record.committed -= chunk.length if chunk and empty else 0
         return answer
+
+
+class CountsTheCachedAsInUse(model.Heap):
+    def take_back(self, offset):
+        before, empty = self.record.in_use, self.record.cached == 0
+        answer = super().take_back(offset)
+        self.record.in_use = before if empty else self.record.in_use
+        return answer
+
+
+class HandsOutTheCachedUncounted(model.Heap):
+    def hand_out(self, size):
+        before, cached = self.record.in_use, self.record.cached
+        answer = super().hand_out(size)
+        self.record.in_use = before if cached and not self.record.cached else self.record.in_use
+        return answer
+
+
+class LetsThePeakFollowInUse(model.Heap):
+    def count(self, chunk):
+        before = self.record.peak
+        super().count(chunk)
+        self.record.peak = max(before, self.record.in_use)
 
 
 class FreesTheCachedAgain(model.Heap):
@@ -224,7 +247,10 @@ SLIPS = (
     SearchesItsOwnClass,
     FitsBestInClassFive,
     LeavesTheRemaindersLeftBitClear,
-    LowersInUseWhenOnlyCaching,
+    LowersCommittedWhenOnlyCaching,
+    CountsTheCachedAsInUse,
+    HandsOutTheCachedUncounted,
+    LetsThePeakFollowInUse,
     FreesTheCachedAgain,
     JudgesByTheWordBefore,
     UnlinksTheRightNeighbourFirst,

@@ -47,8 +47,9 @@ class Record:
     prev: list = field(default_factory=lambda: [0] * 6)  # the sentinels' prev links
     next: list = field(default_factory=lambda: [0] * 6)  # the sentinels' next links
     words: int = 0  # the heap's word count
-    in_use: int = 0  # the sum of used lengths
-    peak: int = 0  # the most that was in use
+    in_use: int = 0  # the sum of live lengths: what tasks hold
+    committed: int = 0  # the sum of used lengths: that and the cached chunk
+    peak: int = 0  # the most that was committed
     high: int = 0  # the largest end of a chunk taken from a list
     cached: int = 0  # the cached chunk's link, 0 for none
     fresh: bool = False  # whether high water was just updated
@@ -249,6 +250,7 @@ class Heap:
         if self.cache_serves(s):
             cached = self.chunk(word_of(self.record.cached))
             self.record.cached = 0
+            self.record.in_use += cached.length
             self.clear(cached)
             return Answer(DONE, cached.payload)
         chunk, compared = self.search(s)
@@ -300,7 +302,8 @@ class Heap:
         if end > r.high:
             r.high, r.fresh = end, True
         r.in_use += chunk.length
-        r.peak = max(r.peak, r.in_use)
+        r.committed += chunk.length
+        r.peak = max(r.peak, r.committed)
 
     def clear(self, chunk):
         """Set the payload of a chunk that is handed out to 0, up to the chunk's end."""
@@ -316,6 +319,7 @@ class Heap:
         chunk = self.live(offset)
         if chunk is None:
             return Answer(NOT_LIVE)
+        self.record.in_use -= chunk.length
         older, self.record.cached = self.record.cached, chunk.link
         if older != 0:
             self.release(self.chunk(word_of(older)))
@@ -330,7 +334,7 @@ class Heap:
 
     def release(self, chunk):
         """Merge a used chunk with its free neighbours and list it."""
-        self.record.in_use -= chunk.length
+        self.record.committed -= chunk.length
         left, right = self.free_neighbours(chunk)
         self.unlink_neighbours(left, right)
         parts = [part for part in (left, chunk, right) if part]
@@ -412,8 +416,9 @@ class Heap:
         used = [chunk for chunk in tiling if chunk.used]
         return (
             (r.cached == 0 or r.cached in [chunk.link for chunk in used])
-            and r.in_use == sum(chunk.length for chunk in used)
-            and r.in_use <= r.peak <= r.high <= 4 * r.words - 4
+            and r.in_use == sum(chunk.length for chunk in used if chunk.link != r.cached)
+            and r.committed == sum(chunk.length for chunk in used)
+            and r.committed <= r.peak <= r.high <= 4 * r.words - 4
             and r.high % 8 == 0
             and all(4 * chunk.right <= r.high for chunk in used)
         )
@@ -423,9 +428,10 @@ class Heap:
     def dump(self):
         """The whole state on one line, links by what they name (docs/ORACLE.md)."""
         r = self.record
-        return "words=%d in_use=%d peak=%d high=%d fresh=%d cached=%s heads=%s lists=%s memory=%s" % (
+        return "words=%d in_use=%d committed=%d peak=%d high=%d fresh=%d cached=%s heads=%s lists=%s memory=%s" % (
             r.words,
             r.in_use,
+            r.committed,
             r.peak,
             r.high,
             r.fresh,

@@ -150,13 +150,16 @@ fn cached_used(record: &Record, chunks: &[Chunk]) -> bool {
     record.cached == 0 || chunks.iter().any(names)
 }
 
-/// Whether bytes in use, peak and high water are right.
+/// Whether bytes in use, bytes committed, peak and high water are right. A chunk is live if used and not cached.
 fn figures_right(record: &Record, words: &[u32], chunks: &[Chunk]) -> bool {
     let used: Vec<&Chunk> = chunks.iter().filter(|chunk| chunk.used).collect();
+    let is_live = |chunk: &&&Chunk| chunk.link() != record.cached as usize;
+    let live: usize = used.iter().filter(is_live).map(|chunk| chunk.length).sum();
     let sum: usize = used.iter().map(|chunk| chunk.length).sum();
     let high = record.high as usize;
-    record.in_use as usize == sum
-        && record.in_use <= record.peak
+    record.in_use as usize == live
+        && record.committed as usize == sum
+        && record.committed <= record.peak
         && record.peak <= record.high
         && high <= 4 * words.len() - 4
         && high % 8 == 0

@@ -30,19 +30,21 @@ impl State {
         }
     }
 
-    /// A field of the record becomes any number, a near one, or another field's.
+    /// A field of the record becomes any number or a near one; or bytes in use and committed change places.
     fn change_field(&mut self, numbers: &mut Numbers) -> &'static str {
         let class = numbers.below(6) as usize;
         let link = self.some_link(numbers);
         let number = numbers.next() as u32;
-        match numbers.below(8) {
+        match numbers.below(10) {
             0 => self.record.prev[class] = link,
             1 => self.record.next[class] = link,
             2 => self.record.cached = link,
             3 => self.record.fresh = !self.record.fresh,
             4 => self.record.words = near(numbers, self.record.words, number),
             5 => self.record.in_use = near(numbers, self.record.in_use, number),
-            6 => self.record.peak = near(numbers, self.record.peak, number),
+            6 => self.record.committed = near(numbers, self.record.committed, number),
+            7 => std::mem::swap(&mut self.record.in_use, &mut self.record.committed),
+            8 => self.record.peak = near(numbers, self.record.peak, number),
             _ => self.record.high = near(numbers, self.record.high, number),
         }
         "a field of the record"
@@ -61,6 +63,7 @@ impl State {
             bytes,
             bytes.wrapping_sub(4),
             self.record.in_use,
+            self.record.committed,
             self.record.high,
             0,
         ];
@@ -107,15 +110,19 @@ impl State {
         "a header, a footer or the guard"
     }
 
-    /// A used chunk becomes free with footer, left bit and bytes in use right, but listed nowhere; a free one the other way.
+    /// A used chunk becomes free with footer, left bit and both sums right, but listed nowhere; a free one the other way.
     fn turn(&mut self, chunk: Chunk) {
         self.words[chunk.word] ^= 2;
         self.words[chunk.end() / 4] ^= 1;
         let length = chunk.length as u32;
         if chunk.used {
             self.words[chunk.end() / 4 - 1] = length;
-            self.record.in_use = self.record.in_use.wrapping_sub(length);
+            self.record.committed = self.record.committed.wrapping_sub(length);
+            if chunk.link() != self.record.cached as usize {
+                self.record.in_use = self.record.in_use.wrapping_sub(length);
+            }
         } else {
+            self.record.committed = self.record.committed.wrapping_add(length);
             self.record.in_use = self.record.in_use.wrapping_add(length);
         }
     }
@@ -170,19 +177,27 @@ impl State {
         }
     }
 
-    /// A used chunk is cached, listed, or written into.
+    /// A used chunk is cached, with bytes in use as they were or right for it, listed, or written into.
     fn change_used(&mut self, numbers: &mut Numbers, used: &[Chunk]) -> &'static str {
         let chunk = numbers.pick(used);
-        match numbers.below(4) {
+        match numbers.below(5) {
             0 => self.record.cached = chunk.link() as u16,
             1 => self.list(chunk, class_of(chunk.length) as u16),
             2 => self.record.cached = (chunk.link() + numbers.within(1, 3) as usize) as u16,
+            3 => self.cache(chunk, used),
             _ => {
                 let word = numbers.within(chunk.word as u32 + 1, chunk.end() as u32 / 4 - 1);
                 self.words[word as usize] = misleading(numbers);
             }
         }
         "a used chunk"
+    }
+
+    /// A used chunk takes the cache's place, and bytes in use follow.
+    fn cache(&mut self, chunk: Chunk, used: &[Chunk]) {
+        self.record.cached = chunk.link() as u16;
+        let live = used.iter().filter(|other| other.word != chunk.word);
+        self.record.in_use = live.map(|other| other.length as u32).sum();
     }
 
     /// More or fewer words are lent, and the record may say so.

@@ -11,6 +11,7 @@ pub struct Record {
     pub next: [u16; 6],
     pub words: u32,
     pub in_use: u32,
+    pub committed: u32,
     pub peak: u32,
     pub high: u32,
     pub cached: u16,

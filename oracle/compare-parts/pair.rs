@@ -2,7 +2,8 @@
 //! compared.
 //!
 //! Compared are the answer with its value and count, the six sentinels' links, every word of the heap and a few behind it, the
-//! cached chunk, the counters and the flag. Links are compared by what they name; since the sentinels' links and every link word
+//! cached chunk, the counters and the flag; bytes in use with the lengths of the payloads that tasks hold, the other counters with the
+//! Rust's, whose bytes in use are committed here. Links are compared by what they name; since the sentinels' links and every link word
 //! agree, so do the lists and their order. A word is a link word if it was last written as one, also where it has become part of a payload.
 //! Outside the Rust's domain it is not asked: there the answer has to be the rules' number, and nothing may have changed.
 //!
@@ -371,18 +372,25 @@ impl Pair {
                 "records differ: {wanted:?} wanted, {:?} given",
                 self.record
             ))
-        } else if figures != (wanted.in_use, wanted.peak, wanted.high) {
+        } else if figures != (wanted.in_use, wanted.committed, wanted.peak, wanted.high) {
             Some(format!("the readers say {figures:?} of {wanted:?}"))
         } else {
             None
         }
     }
 
-    /// The record that the Rust's statics stand for.
+    /// The lengths of the chunks that tasks hold, by the payloads that they got from the Rust and did not give back.
+    fn held(&self) -> u32 {
+        let lengths = self.live.iter().map(|at| self.oracle.header(at - 4).0);
+        lengths.sum()
+    }
+
+    /// The record that the Rust's statics stand for. What the Rust calls in use is committed; in use is what tasks hold.
     fn rust_record(&self) -> Record {
         let mut record = Record {
             words: self.made,
-            in_use: self.oracle.in_use(),
+            in_use: self.held(),
+            committed: self.oracle.in_use(),
             peak: self.oracle.peak(),
             high: self.oracle.high(),
             cached: self

@@ -32,6 +32,7 @@ mod library {
         pub fn lischemur_audit(record: Record, heap: *const u32, len: u64) -> u32;
         pub fn lischemur_mark(record: Record, stacklets: u32) -> Marking;
         pub fn lischemur_in_use(record: Record) -> u32;
+        pub fn lischemur_committed(record: Record) -> u32;
         pub fn lischemur_peak(record: Record) -> u32;
         pub fn lischemur_high_water(record: Record) -> u32;
     }
@@ -72,11 +73,12 @@ pub fn mark(record: &mut Record, stacklets: u32) -> Option<i64> {
     (marking.changed == 1).then_some(marking.mark)
 }
 
-/// Bytes in use, their peak and high water, as the three readers say them.
-pub fn figures(record: &Record) -> (u32, u32, u32) {
+/// Bytes in use, bytes committed, their peak and high water, as the four readers say them.
+pub fn figures(record: &Record) -> (u32, u32, u32, u32) {
     unsafe {
         (
             library::lischemur_in_use(*record),
+            library::lischemur_committed(*record),
             library::lischemur_peak(*record),
             library::lischemur_high_water(*record),
         )
