@@ -72,14 +72,15 @@ enum lischemur_number {
  * like; write it by calls alone. A link is 0 to 5 for a list's sentinel, and w + 6 for the chunk whose header is word w.
  */
 typedef struct lischemur_record {
-    uint16_t prev[6]; /* of each list, the link of its last chunk */
-    uint16_t next[6]; /* of each list, the link of its first chunk */
-    uint32_t words;   /* how many words the heap has; 0 before one is made */
-    uint32_t in_use;  /* the sum of the used chunks' lengths, headers and the cached chunk included */
-    uint32_t peak;    /* the largest that sum has been */
-    uint32_t high;    /* high water: the largest end, in bytes, of a chunk that was handed out */
-    uint16_t cached;  /* the link of the cached chunk, 0 for none */
-    bool fresh;       /* high water has risen since the mark was last read */
+    uint16_t prev[6];   /* of each list, the link of its last chunk */
+    uint16_t next[6];   /* of each list, the link of its first chunk */
+    uint32_t words;     /* how many words the heap has; 0 before one is made */
+    uint32_t in_use;    /* what tasks hold: the sum of the live chunks' lengths, headers included */
+    uint32_t committed; /* that and the cached chunk: the sum of the used chunks' lengths */
+    uint32_t peak;      /* the largest that committed has been */
+    uint32_t high;      /* high water: the largest end, in bytes, of a chunk that was handed out */
+    uint16_t cached;    /* the link of the cached chunk, 0 for none */
+    bool fresh;         /* high water has risen since the mark was last read */
 } lischemur_record;
 
 /* What making, handing out and taking back reply. */
@@ -118,8 +119,12 @@ uint32_t lischemur_audit(lischemur_record record, const uint32_t *heap, uint64_t
 /* The mark: high water less 108 bytes for each of so many stacklets, if it has risen since it was last read. */
 lischemur_marking lischemur_mark(lischemur_record record, uint32_t stacklets);
 
-/* Bytes in use, the most that were, and high water: the record's fields of these names, of any record. */
+/*
+ * In use: what tasks hold, which is the figure to show. Committed: that and the cached chunk, which is free for the next handout that
+ * it fits. Peak follows committed. With high water these are the record's fields of these names, of any record.
+ */
 uint32_t lischemur_in_use(lischemur_record record);
+uint32_t lischemur_committed(lischemur_record record);
 uint32_t lischemur_peak(lischemur_record record);
 uint32_t lischemur_high_water(lischemur_record record);
 
@@ -147,11 +152,12 @@ LISCHEMUR_ASSERT(offsetof(lischemur_record, prev) == 0, "the record's layout");
 LISCHEMUR_ASSERT(offsetof(lischemur_record, next) == 12, "the record's layout");
 LISCHEMUR_ASSERT(offsetof(lischemur_record, words) == 24, "the record's layout");
 LISCHEMUR_ASSERT(offsetof(lischemur_record, in_use) == 28, "the record's layout");
-LISCHEMUR_ASSERT(offsetof(lischemur_record, peak) == 32, "the record's layout");
-LISCHEMUR_ASSERT(offsetof(lischemur_record, high) == 36, "the record's layout");
-LISCHEMUR_ASSERT(offsetof(lischemur_record, cached) == 40, "the record's layout");
-LISCHEMUR_ASSERT(offsetof(lischemur_record, fresh) == 42, "the record's layout");
-LISCHEMUR_ASSERT(sizeof(lischemur_record) == 44, "the record's size");
+LISCHEMUR_ASSERT(offsetof(lischemur_record, committed) == 32, "the record's layout");
+LISCHEMUR_ASSERT(offsetof(lischemur_record, peak) == 36, "the record's layout");
+LISCHEMUR_ASSERT(offsetof(lischemur_record, high) == 40, "the record's layout");
+LISCHEMUR_ASSERT(offsetof(lischemur_record, cached) == 44, "the record's layout");
+LISCHEMUR_ASSERT(offsetof(lischemur_record, fresh) == 46, "the record's layout");
+LISCHEMUR_ASSERT(sizeof(lischemur_record) == 48, "the record's size");
 LISCHEMUR_ASSERT(offsetof(lischemur_reply, number) == 0, "the reply's layout");
 LISCHEMUR_ASSERT(offsetof(lischemur_reply, value) == 4, "the reply's layout");
 LISCHEMUR_ASSERT(offsetof(lischemur_reply, compared) == 8, "the reply's layout");
@@ -159,7 +165,7 @@ LISCHEMUR_ASSERT(sizeof(lischemur_reply) == 12, "the reply's size");
 LISCHEMUR_ASSERT(offsetof(lischemur_marking, mark) == 0, "the marking's layout");
 LISCHEMUR_ASSERT(offsetof(lischemur_marking, changed) == 8, "the marking's layout");
 LISCHEMUR_ASSERT(offsetof(lischemur_marking, record) == 12, "the marking's layout");
-LISCHEMUR_ASSERT(sizeof(lischemur_marking) == 56, "the marking's size");
+LISCHEMUR_ASSERT(sizeof(lischemur_marking) == 64, "the marking's size");
 
 #ifdef __cplusplus
 }

@@ -15,15 +15,16 @@ sys.path.insert(0, str(Path(__file__).resolve().parents[2] / "oracle"))
 import histories
 import model
 
-FIELDS = ("words", "in_use", "peak", "high", "cached")
+FIELDS = ("words", "in_use", "committed", "peak", "high", "cached")
 
 
 def whole_state(heap):
     """The state as trace.c writes it: the door's links and words are the model's, so nothing needs naming."""
     r = heap.record
-    return "words=%d in_use=%d peak=%d high=%d fresh=%d cached=%d sound=%d lent=%d links=%s memory=%s" % (
+    return "words=%d in_use=%d committed=%d peak=%d high=%d fresh=%d cached=%d sound=%d lent=%d links=%s memory=%s" % (
         r.words,
         r.in_use,
+        r.committed,
         r.peak,
         r.high,
         r.fresh,

@@ -53,8 +53,8 @@ static void show(void)
 {
     if (memory.unused != outside || heap[words] != outside)
         exit(3);
-    printf("words=%" PRIu32 " in_use=%" PRIu32 " peak=%" PRIu32 " high=%" PRIu32, record.words,
-        lischemur_in_use(record), lischemur_peak(record), lischemur_high_water(record));
+    printf("words=%" PRIu32 " in_use=%" PRIu32 " committed=%" PRIu32 " peak=%" PRIu32 " high=%" PRIu32, record.words,
+        lischemur_in_use(record), lischemur_committed(record), lischemur_peak(record), lischemur_high_water(record));
     printf(" fresh=%d cached=%u sound=%" PRIu32 " lent=%" PRIu32 " links=", record.fresh,
         record.cached, lischemur_audit(record, heap, lent), lent);
     for (int k = 0; k < 6; k++)
@@ -102,9 +102,9 @@ static void serve(uint32_t kind, uint32_t number)
 /* Does the damage of a line that begins with !. */
 static void damage(const char *line)
 {
-    char name[8];
+    char name[16];
     unsigned index, value;
-    if (sscanf(line, "!%7s %u %u", name, &index, &value) != 3 || index >= MOST)
+    if (sscanf(line, "!%15s %u %u", name, &index, &value) != 3 || index >= MOST)
         exit(2);
     if (strcmp(name, "memory") == 0) heap[index] = value;
     if (strcmp(name, "lent") == 0) lent = value;
@@ -112,6 +112,7 @@ static void damage(const char *line)
     if (strcmp(name, "next") == 0) record.next[index % 6] = (uint16_t)value;
     if (strcmp(name, "words") == 0) record.words = value;
     if (strcmp(name, "in_use") == 0) record.in_use = value;
+    if (strcmp(name, "committed") == 0) record.committed = value;
     if (strcmp(name, "peak") == 0) record.peak = value;
     if (strcmp(name, "high") == 0) record.high = value;
     if (strcmp(name, "cached") == 0) record.cached = (uint16_t)value;

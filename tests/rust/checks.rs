@@ -53,6 +53,16 @@ impl Checks {
     }
 }
 
+/// Bytes in use, bytes committed, peak and high water, as the readers say them.
+pub fn figures(heap: &Heap) -> (u32, u32, u32, u32) {
+    (
+        heap.in_use(),
+        heap.committed(),
+        heap.peak(),
+        heap.high_water(),
+    )
+}
+
 /// Numbers that look random; the same seed gives the same ones.
 pub struct Numbers(u64);
 

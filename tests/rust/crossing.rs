@@ -1,7 +1,7 @@
 //! What crosses the door: the record's layout, here and as the archive's functions see it, the answer
 //! numbers, records that no heap was made with, and the mark.
 
-use crate::checks::{state, word, Checks};
+use crate::checks::{figures, state, word, Checks};
 use lischemur::{Heap, Memory, Offset, Record, Refusal};
 use std::mem::{align_of, offset_of, size_of};
 
@@ -11,19 +11,20 @@ fn layout(checks: &mut Checks) {
     checks.equal(
         format_args!("size and alignment of the record"),
         sizes,
-        (44, 4),
+        (48, 4),
     );
     let offsets = [
         offset_of!(Record, prev),
         offset_of!(Record, next),
         offset_of!(Record, words),
         offset_of!(Record, in_use),
+        offset_of!(Record, committed),
         offset_of!(Record, peak),
         offset_of!(Record, high),
         offset_of!(Record, cached),
         offset_of!(Record, fresh),
     ];
-    let wanted = [0, 12, 24, 28, 32, 36, 40, 42];
+    let wanted = [0, 12, 24, 28, 32, 36, 40, 44, 46];
     checks.equal(format_args!("offsets of its fields"), offsets, wanted);
 
     let record = Record {
@@ -31,14 +32,15 @@ fn layout(checks: &mut Checks) {
         next: [7, 8, 9, 10, 11, 12],
         words: 0x0102_0304,
         in_use: 0x1112_1314,
+        committed: 0x5152_5354,
         peak: 0x2122_2324,
         high: 0x3132_3334,
         cached: 0x4142,
         fresh: true,
     };
     let mut heap = Heap::over(record, &mut []);
-    let readers = (heap.in_use(), heap.peak(), heap.high_water());
-    let wanted = (record.in_use, record.peak, record.high);
+    let wanted = (record.in_use, record.committed, record.peak, record.high);
+    let readers = figures(&heap);
     checks.equal(format_args!("readers"), readers, wanted);
     let mark = heap.mark(0);
     checks.equal(format_args!("mark"), mark, Some(0x3132_3334));
@@ -69,7 +71,8 @@ fn layout(checks: &mut Checks) {
         prev: [0, 1, 12, 3, 4, 5],
         next: [0, 1, 12, 3, 4, 5],
         words: 33,
-        in_use: 24,
+        in_use: 0,
+        committed: 24,
         peak: 24,
         high: 24,
         cached: 6,

@@ -16,20 +16,21 @@ fn damaged(mut record: Record, numbers: &mut Numbers) -> Record {
     let near = numbers.one_of(&[1, 2, 4, 8, 16, 24]);
     let class = numbers.below(6) as usize;
     let link = numbers.below(WORDS + 8) as u16;
-    let counter = match numbers.below(8) {
+    let counter = match numbers.below(9) {
         0 => &mut record.words,
         1 => &mut record.in_use,
-        2 => &mut record.peak,
-        3 => &mut record.high,
-        4 => {
+        2 => &mut record.committed,
+        3 => &mut record.peak,
+        4 => &mut record.high,
+        5 => {
             record.prev[class] = link;
             return record;
         }
-        5 => {
+        6 => {
             record.next[class] = link;
             return record;
         }
-        6 => {
+        7 => {
             record.cached = link;
             return record;
         }

@@ -1,7 +1,7 @@
-//! Fixed checks: the rules' whole run and their entries reckoned by hand, the incident, frees that must
-//! be refused, and pointers.
+//! Fixed checks: the rules' whole run and their entries reckoned by hand, the incident, the figures after
+//! each kind of call, frees that must be refused, and pointers.
 
-use crate::checks::{set_word, state, word, Checks};
+use crate::checks::{figures, set_word, state, word, Checks};
 use lischemur::{accepted, Heap, Memory, Offset, Record, Refusal, MOST_SIZE, MOST_WORDS};
 use std::ptr::NonNull;
 
@@ -151,8 +151,39 @@ fn entries(checks: &mut Checks) {
         heap.take_back(Offset(36)),
         Ok(()),
     );
-    checks.equal(format_args!("in use"), heap.in_use(), 48);
+    let sums = (heap.in_use(), heap.committed());
+    checks.equal(format_args!("in use and committed"), sums, (0, 48));
     checks.equal(format_args!("the merged chunk"), word(&heap, 0), 33);
+}
+
+/// In use, what tasks hold, and committed, that and the cached chunk, after each kind of call; peak follows committed.
+const FIGURES: [(&str, (u32, u32, u32, u32)); 13] = [
+    ("0000000021", (0, 0, 0, 0)),
+    ("010000000C", (16, 16, 16, 16)),
+    ("0100000014", (40, 40, 40, 40)),
+    // cached, handed out from the cache, and the other one cached
+    ("0200000004", (24, 40, 40, 40)),
+    ("010000000C", (40, 40, 40, 40)),
+    ("0200000014", (16, 40, 40, 40)),
+    // from a list beside the cached chunk of 24, and that one released
+    ("0100000028", (64, 88, 88, 88)),
+    ("0200000004", (48, 64, 88, 88)),
+    // refused
+    ("0200000004", (48, 64, 88, 88)),
+    ("01000000C8", (48, 64, 88, 88)),
+    ("0100000008", (64, 64, 88, 88)),
+    ("020000002C", (16, 64, 88, 88)),
+    ("0000000021", (0, 0, 0, 0)),
+];
+
+/// The figures after each kind of call.
+fn both_figures(checks: &mut Checks) {
+    let mut memory = Memory::<33>::new();
+    let mut heap = Heap::over(Record::EMPTY, memory.words());
+    for (frame, wanted) in FIGURES {
+        answer_line(&mut heap, frame);
+        checks.equal(format_args!("after {frame}"), figures(&heap), wanted);
+    }
 }
 
 /// Frees that must be refused, and that change nothing.
@@ -239,10 +270,11 @@ fn pointers(checks: &mut Checks) {
 
 /// Run all.
 pub fn run(checks: &mut Checks) {
-    let parts: [(&str, fn(&mut Checks)); 5] = [
+    let parts: [(&str, fn(&mut Checks)); 6] = [
         ("whole run", whole_run),
         ("incident", incident),
         ("entries reckoned by hand", entries),
+        ("in use and committed", both_figures),
         ("refused frees", frees),
         ("pointers", pointers),
     ];

@@ -35,7 +35,12 @@ impl Pair<'_> {
     /// Check that both heaps are in the same state.
     fn same(&self, checks: &mut Checks) {
         let (heap, oracle, record) = (&self.heap, &*self.oracle, self.heap.record());
-        checks.equal(format_args!("in use"), heap.in_use(), oracle.in_use());
+        // the Rust's bytes in use are committed here, and bytes in use are what tasks hold
+        let length = |offset: &u32| oracle.header(offset - 4).0;
+        let held: u32 = self.live.keys().map(length).sum();
+        checks.equal(format_args!("in use"), heap.in_use(), held);
+        let committed = (heap.committed(), oracle.in_use());
+        checks.equal(format_args!("committed"), committed.0, committed.1);
         checks.equal(format_args!("peak"), heap.peak(), oracle.peak());
         checks.equal(format_args!("high water"), heap.high_water(), oracle.high());
         checks.equal(format_args!("its flag"), record.fresh, oracle.fresh());
@@ -104,6 +109,10 @@ impl Pair<'_> {
         } else {
             checks.equal(format_args!("compared"), self.heap.compared(), 0);
         }
+        if let Ok(Offset(offset)) = got {
+            let before = self.live.insert(offset, Vec::new());
+            checks.equal(format_args!("a payload live already"), before, None);
+        }
         self.same(checks);
         let Ok(Offset(offset)) = got else { return };
         let end = (offset - 4 + (word(&self.heap, offset / 4 - 1) & !3)) / 4;
@@ -116,8 +125,7 @@ impl Pair<'_> {
             self.write(index, value);
             written.push(value);
         }
-        let before = self.live.insert(offset, written);
-        checks.equal(format_args!("a payload live already"), before, None);
+        self.live.insert(offset, written);
     }
 
     /// Take back on both sides; the Rust is asked if the payload is live.

@@ -92,11 +92,16 @@ pub fn sound(record: &Record, words: &[u32]) -> bool {
         }
     }
     let mut used = chunks.iter().filter(|chunk| chunk.used);
-    let in_use: usize = used.clone().map(|chunk| 4 * chunk.len).sum();
+    let committed: usize = used.clone().map(|chunk| 4 * chunk.len).sum();
+    let cached = used
+        .clone()
+        .find(|chunk| chunk.at + 6 == record.cached as usize);
+    let in_use = committed - cached.map_or(0, |chunk| 4 * chunk.len);
     let end = used.clone().map(|chunk| 4 * (chunk.at + chunk.len)).max();
     (record.cached == 0 || used.any(|chunk| chunk.at + 6 == record.cached as usize))
         && record.in_use as usize == in_use
-        && record.in_use <= record.peak
+        && record.committed as usize == committed
+        && record.committed <= record.peak
         && record.peak <= record.high
         && record.high as usize <= 4 * words.len() - 4
         && record.high % 8 == 0

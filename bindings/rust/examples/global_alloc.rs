@@ -1,7 +1,7 @@
 //! The heap as a program's global allocator, on the host.
 //!
 //! The lock is the program's own: a flag that is spun on. What the heap refuses, and an alignment above
-//! 8, is a null pointer, as `GlobalAlloc` asks. Prints what was in use and the peak, three times.
+//! 8, is a null pointer, as `GlobalAlloc` asks. Prints what was in use and committed, and the peak, three times.
 
 use std::alloc::{GlobalAlloc, Layout};
 use std::cell::UnsafeCell;
@@ -80,10 +80,11 @@ unsafe impl GlobalAlloc for Locked {
     }
 }
 
-/// Print what is in use now and the most that was.
+/// Print what is in use and committed now, and the most that was committed.
 fn show(when: &str) {
-    if let Some((in_use, peak)) = HEAP.with(|heap| (heap.in_use(), heap.peak())) {
-        println!("{when}: {in_use} bytes in use, peak {peak}");
+    let figures = HEAP.with(|heap| (heap.in_use(), heap.committed(), heap.peak()));
+    if let Some((in_use, committed, peak)) = figures {
+        println!("{when}: {in_use} bytes in use, {committed} committed, peak {peak}");
     }
 }
 

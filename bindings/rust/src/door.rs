@@ -17,9 +17,11 @@ pub struct Record {
     pub next: [u16; 6],
     /// How many words the heap has; 0 before one is made.
     pub words: u32,
-    /// The sum of used lengths, that of the cached chunk included.
+    /// What tasks hold: the sum of live lengths.
     pub in_use: u32,
-    /// The largest that sum has been.
+    /// That and the cached chunk: the sum of used lengths.
+    pub committed: u32,
+    /// The largest that `committed` has been.
     pub peak: u32,
     /// The largest end, in bytes, of a chunk that was handed out.
     pub high: u32,
@@ -36,6 +38,7 @@ impl Record {
         next: [0; 6],
         words: 0,
         in_use: 0,
+        committed: 0,
         peak: 0,
         high: 0,
         cached: 0,
@@ -71,22 +74,23 @@ pub(crate) struct Marking {
     pub(crate) rec: Record,
 }
 
-const _: () = assert!(size_of::<Record>() == 44 && align_of::<Record>() == 4);
+const _: () = assert!(size_of::<Record>() == 48 && align_of::<Record>() == 4);
 const _: () = assert!(offset_of!(Record, prev) == 0);
 const _: () = assert!(offset_of!(Record, next) == 12);
 const _: () = assert!(offset_of!(Record, words) == 24);
 const _: () = assert!(offset_of!(Record, in_use) == 28);
-const _: () = assert!(offset_of!(Record, peak) == 32);
-const _: () = assert!(offset_of!(Record, high) == 36);
-const _: () = assert!(offset_of!(Record, cached) == 40);
-const _: () = assert!(offset_of!(Record, fresh) == 42);
+const _: () = assert!(offset_of!(Record, committed) == 32);
+const _: () = assert!(offset_of!(Record, peak) == 36);
+const _: () = assert!(offset_of!(Record, high) == 40);
+const _: () = assert!(offset_of!(Record, cached) == 44);
+const _: () = assert!(offset_of!(Record, fresh) == 46);
 
 const _: () = assert!(size_of::<Reply>() == 12 && align_of::<Reply>() == 4);
 const _: () = assert!(offset_of!(Reply, number) == 0);
 const _: () = assert!(offset_of!(Reply, value) == 4);
 const _: () = assert!(offset_of!(Reply, compared) == 8);
 
-const _: () = assert!(size_of::<Marking>() == 56);
+const _: () = assert!(size_of::<Marking>() == 64);
 const _: () = assert!(offset_of!(Marking, mark) == 0);
 const _: () = assert!(offset_of!(Marking, changed) == 8);
 const _: () = assert!(offset_of!(Marking, rec) == 12);
@@ -114,9 +118,11 @@ extern "C" {
     pub(crate) fn lischemur_audit(rec: Record, heap: *const u32, len: usize) -> u32;
     /// The mark, if high water has risen, and the record with its flag off.
     pub(crate) fn lischemur_mark(rec: Record, stacklets: u32) -> Marking;
-    /// Bytes in use.
+    /// What tasks hold.
     pub(crate) fn lischemur_in_use(rec: Record) -> u32;
-    /// The most bytes that were in use.
+    /// That and the cached chunk.
+    pub(crate) fn lischemur_committed(rec: Record) -> u32;
+    /// The most bytes that were committed.
     pub(crate) fn lischemur_peak(rec: Record) -> u32;
     /// The largest end of a chunk that was handed out.
     pub(crate) fn lischemur_high_water(rec: Record) -> u32;

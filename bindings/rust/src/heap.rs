@@ -156,13 +156,20 @@ impl<'a> Heap<'a> {
         (marking.changed == 1).then_some(marking.mark)
     }
 
-    /// Bytes in use: the sum of used lengths, headers and the cached chunk included.
+    /// Bytes in use, what tasks hold: the sum of live lengths, headers included. It follows each handout and
+    /// each free, and is the figure to show.
     pub fn in_use(&self) -> u32 {
         // SAFETY: the function takes numbers only, and accepts any.
         unsafe { door::lischemur_in_use(self.record) }
     }
 
-    /// The most bytes that were in use.
+    /// Bytes committed: what tasks hold and the cached chunk, which the next handout that it fits gets.
+    pub fn committed(&self) -> u32 {
+        // SAFETY: the function takes numbers only, and accepts any.
+        unsafe { door::lischemur_committed(self.record) }
+    }
+
+    /// The most bytes that were committed.
     pub fn peak(&self) -> u32 {
         // SAFETY: the function takes numbers only, and accepts any.
         unsafe { door::lischemur_peak(self.record) }
