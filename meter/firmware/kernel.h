@@ -24,9 +24,9 @@ struct answer kernel_take_back(uint32_t payload);
 /* the audit alone: answer 0 for sound, 5 for damaged, 7 where a heap has none */
 struct answer kernel_audit(void);
 
-/* the counters: bytes in use, the most that were, high water, and the mark with one stacklet, 1 if there is none */
+/* the counters: bytes in use, bytes committed, the most that were committed, high water, and the mark with one stacklet, 1 if there is none */
 struct figures {
-    uint32_t in_use, peak, high;
+    uint32_t in_use, committed, peak, high;
     int64_t mark;
 };
 struct figures kernel_figures(void);

@@ -67,7 +67,9 @@ struct figures kernel_figures(void)
 {
     lischemur_marking m = lischemur_mark(record, 1);
     record = m.record;
-    return (struct figures){lischemur_in_use(record), lischemur_peak(record), lischemur_high_water(record), m.changed ? m.mark : 1};
+    return (struct figures){
+        lischemur_in_use(record), lischemur_committed(record), lischemur_peak(record), lischemur_high_water(record), m.changed ? m.mark : 1,
+    };
 }
 
 uint32_t *kernel_word(uint32_t offset)

@@ -242,6 +242,10 @@ def check_drawing(data, chunks):
         lengths = [int(line[10:], 16) for line in data.splitlines() if line.startswith(digits)]
         if sums[kind] != [f"{len(lengths):,}", f"{sum(lengths):,}"]:
             fail("a sum is wrong: %s" % kind, sums, lengths)
+    live, cached = (sum(int(line[10:], 16) for line in data.splitlines() if line.startswith(kind)) for kind in (b"11", b"12"))
+    for words in (f"in use (live): {live:,} bytes", f"committed (live and cached): {live + cached:,} bytes"):
+        if words not in table[len(chunks) + 7 :]:
+            fail("the totals do not say '%s'" % words, *table[len(chunks) + 7 :])
     if len(bar[0]) != heapmap.WIDTH or max(map(len, bar[1:3])) > heapmap.WIDTH or not bar[2].endswith(f"{whole:,}"):
         fail("the bar is not as wide as it is to be", *bar)
     if len(chunks) <= heapmap.WIDTH:
@@ -253,10 +257,14 @@ def check_drawing(data, chunks):
 
 
 def check_picture(chunks, whole):
-    """The picture is well-formed, has a title for each chunk, and the boxes of the chunks have the area of the heap."""
+    """The picture is well-formed, says the figures, has a title for each chunk, and the boxes of the chunks have the area of the heap."""
     tree = xml.fromstring(heapmap.picture(chunks))
     groups = tree.findall("{*}g")
     size = heapmap.a_row(whole)
+    used = {kind: sum(chunk.length for chunk in chunks if chunk.kind == kind) for kind in ("live", "cached")}
+    for words in ("in use: %s bytes" % f"{used['live']:,}", "committed: %s bytes" % f"{used['live'] + used['cached']:,}"):
+        if words not in [element.text for element in tree.findall("{*}text")]:
+            fail("the picture does not say '%s'" % words)
     if len(groups) != len(chunks) + 1:
         fail("the picture has %d groups for %d chunks" % (len(groups), len(chunks)))
     drawn = 0
