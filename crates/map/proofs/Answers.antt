@@ -1,12 +1,11 @@
 -- THE CALLS' OUTCOMES, case by case. Assumes nothing.
---     length-words                               n rows have 3 * n words
 --     laid-fits, laid-short                      what is laid into lent room, and room that is too short
 --     written-sound, written-damaged             the map of a sound state, and of a damaged one
 --     written-done                               answer 0: the state is sound, and its lines stand in the room
 use mathlib.Core.Path.{_≡_, refl, sym, ap, _∙_}
 use mathlib.Core.Bool.{Bool, true, false}
-use mathlib.Core.List.{List, [], _∷_, _++_}
-use Prim.Native.Nat.{ℕ, _*_, _≤_, _<_}
+use mathlib.Core.List.{List, _++_}
+use Prim.Native.Nat.{ℕ, _≤_, _<_}
 use native.Mathlib.Omega.{arith}
 use lib.Dec.{leb}
 use lib.ListN.{length, drop}
@@ -15,15 +14,8 @@ use Rattle.words.specs.Choice.{pick}
 use Rattle.rules.specs.Rules.{Outcome, says}
 use Rattle.rules.specs.Making.{State}
 use Rattle.heap.specs.Answer.{soundAt}
-use Rattle.map.specs.declared.rows.Row.{Row}
-use Rattle.map.specs.Rows.{linesOf, wordsOf}
+use Rattle.map.specs.Rows.{linesOf}
 use Rattle.map.specs.Calls.{laid, rowsOf, written}
-
--- n rows have 3 * n words
-pub length-words : (rs : List Row) → length (wordsOf rs) ≡ 3 * length rs
-unfolding wordsOf
-length-words [] = refl
-length-words (r ∷ rs) = omega (arith, length-words rs)
 
 module _ (n : ℕ) (xs room : List ℕ) where
   -- room enough

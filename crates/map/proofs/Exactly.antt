@@ -13,9 +13,9 @@ use Rattle.map.specs.Rows.{lineOf, linesOf}
 use Rattle.map.specs.Layout.{LegalMap}
 use Rattle.map.specs.Reading.{start, Read, rows, bad, readFrom, readAll}
 use Rattle.map.specs.Claims.{LegalStart, FirstBad}
-use Rattle.map.proofs.RowLaws.{length-line}
+use Rattle.map.proofs.Lines.{length-line, length-lines}
 use Rattle.map.proofs.Places.{pastAll, goes-on, goes-last, goes-start, start-goes, map-start, map-some, start-map}
-use Rattle.map.proofs.Through.{length-lines, beforeAll, all-rows, all-bad, Stopped, Says, read-none, through, read-stop, reads}
+use Rattle.map.proofs.Through.{beforeAll, all-rows, all-bad, Stopped, Says, read-none, through, read-stop, reads}
 
 -- a line is not nothing
 line-some : (r : Row) (more : List ℕ) → [] ≡ lineOf r ++ more → ⊥

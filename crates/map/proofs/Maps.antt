@@ -41,9 +41,9 @@ use Rattle.map.specs.Layout.{mapOf, chunksOf, LegalMap}
 use Rattle.map.specs.Reading.{Read, rows, bad, readAll}
 use Rattle.map.specs.Calls.{laid, rowsOf, written, readInto}
 use Rattle.map.specs.Claims.{FirstBad}
-use Rattle.map.proofs.Through.{length-lines}
+use Rattle.map.proofs.Lines.{length-lines, length-words}
 use Rattle.map.proofs.Exactly.{map-read, read-legal, bad-read, read-first}
-use Rattle.map.proofs.Answers.{length-words, laid-fits, laid-short, written-sound, written-damaged, written-done}
+use Rattle.map.proofs.Answers.{laid-fits, laid-short, written-sound, written-damaged, written-done}
 use Rattle.map.proofs.Heaps.{chunks-of-map, cached-same, chunks-shown, map-shown}
 
 module _ (most places : ℕ) (digits : 4 * most ≤ 2 ^ 32) where

@@ -1,7 +1,6 @@
 -- LAWS OF ONE LINE: all that the other files know of `rowIn`. Assumes nothing.
 --     row-of-line     a row's line is read as that row, if its numbers fit their digits
 --     line-of-row     a line that is read as a row is that row's line, and the numbers fit
---     length-line     a row's line has nineteen bytes
 use mathlib.Core.Path.{_≡_, refl, sym, ap, subst, _∙_}
 use mathlib.Core.Bool.{Bool, true, false, _&&_}
 use mathlib.Core.List.{List, [], _∷_, _++_, append-assoc}
@@ -18,15 +17,11 @@ use Rattle.frame.specs.Hex.{allDigits, valueOf, digitsOf}
 use Rattle.frame.specs.Answer.{answerBytes}
 use Rattle.frame.proofs.Laws.Hex.{all-append, value-of-digits, digits-of-value, value-below}
 use Rattle.frame.proofs.Laws.Hex as hex
-use Rattle.frame.proofs.Laws.Answer.{length-answer, answer-number, answer-value, answer-compared, answer-digits, answer-end}
+use Rattle.frame.proofs.Laws.Answer.{answer-number, answer-value, answer-compared, answer-digits, answer-end}
 use Rattle.map.specs.declared.rows.Row.{Row}
 use Rattle.map.specs.declared.rows.Line.the-variants.{Good, Bad}
 use Rattle.map.specs.Rows.{row, lineOf}
 use Rattle.map.specs.Reading.{rowIn}
-
--- nineteen bytes
-pub length-line : (r : Row) → length (lineOf r) ≡ 19
-length-line r = length-answer (r .kind) (r .at) (r .len)
 
 -- a row's line is read as that row
 pub row-of-line : (r : Row) → r .kind < 2 ^ 8 → r .at < 2 ^ 32 → r .len < 2 ^ 32 → rowIn (lineOf r) ≡ Good r

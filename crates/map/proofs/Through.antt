@@ -1,5 +1,4 @@
 -- READING, LINE BY LINE: what the reader gives, for lists of any length. Assumes nothing.
---     length-lines     n rows have 19 * n bytes
 --     through          lines of rows that follow are read through, and the reader goes on after them
 --     read-stop        bytes with which no row goes on are bad at once
 --     reads            whatever the bytes: what is read is so
@@ -18,14 +17,9 @@ use Rattle.map.specs.declared.rows.Line.{Line}
 use Rattle.map.specs.declared.rows.Line.the-variants.{Good, Bad}
 use Rattle.map.specs.Rows.{lineOf, linesOf}
 use Rattle.map.specs.Reading.{rowIn, followsᵇ, past, Read, rows, bad, before, lineRead, readFrom}
-use Rattle.map.proofs.RowLaws.{length-line, row-of-line, line-of-row}
+use Rattle.map.proofs.Lines.{length-line}
+use Rattle.map.proofs.RowLaws.{row-of-line, line-of-row}
 use Rattle.map.proofs.Places.{pastAll, Goes, row-fits}
-
--- n rows have 19 * n bytes
-pub length-lines : (rs : List Row) → length (linesOf rs) ≡ 19 * length rs
-unfolding linesOf
-length-lines [] = refl
-length-lines (r ∷ rs) = rw (length-append (lineOf r) (linesOf rs), length-line r) (omega (arith, length-lines rs))
 
 -- rows read before what is read after them
 abbrev pub beforeAll : List Row → Read → Read

@@ -1,19 +1,18 @@
 -- THE MAP'S CALLS (W-201): writing the map of a state, and reading one, each with all that is in the lent room afterwards. 5 before 6; 6 after every 7.
 use mathlib.Core.List.{List, _++_}
-use Prim.Native.Nat.{ℕ, _*_}
+use Prim.Native.Nat.{ℕ}
 use lib.Dec.{leb}
 use lib.ListN.{length, drop}
 use Rattle.words.specs.Choice.{pick}
 use Rattle.rules.specs.Rules.{Outcome, says}
 use Rattle.rules.specs.Test.{tile}
 use Rattle.rules.specs.Making.{State}
-use Rattle.rules.specs.State.{ops}
 use Rattle.heap.specs.Seen.{base}
 use Rattle.heap.specs.Answer.{soundAt}
 use Rattle.map.specs.declared.rows.Row.{Row}
 use Rattle.map.specs.Rows.{linesOf, wordsOf}
 use Rattle.map.specs.Layout.{mapOf}
-use Rattle.map.specs.Reading.{Read, rows, bad, readAll}
+use Rattle.map.specs.Reading.{Read, rows, bad}
 
 -- the room with the first places taken by xs; 6 where it is too short
 unfoldable pub laid : ℕ → List ℕ → List ℕ → Outcome (List ℕ)

@@ -4,21 +4,20 @@
 --     held-same, held-last     the cached lengths after the chunks, or the cache, changed
 use mathlib.Core.Path.{_≡_, refl, sym, ap, subst, _∙_}
 use mathlib.Core.Logic.{_≢_}
-use mathlib.Core.Bool.{Bool, true, false}
+use mathlib.Core.Bool.{false}
 use mathlib.Core.List.{List, [], _∷_, _++_, List·Memᴰ·head, List·Memᴰ·tail}
-use Prim.Native.Nat.{ℕ, zero, suc, _+_, _-_, _*_, _/_, _%_, _≤_, _<_}
+use Prim.Native.Nat.{ℕ, _+_, _-_, _≤_, _<_}
 use native.Mathlib.Omega.{arith}
-use lib.Dec.{eqb, leb}
+use lib.Dec.{eqb}
 use lib.ListN.{length}
 use borrow.Author.Tests.{ne-eqb, eq-eqb}
 use Rattle.words.specs.Choice.{pick}
 use Rattle.rules.specs.Lists.{Mem, Distinct}
-use Rattle.rules.specs.Chunks.{Chunk, free, busy, total, Legal, usedSum}
+use Rattle.rules.specs.Chunks.{Chunk, busy, total, Legal, usedSum}
 use Rattle.rules.specs.Place.{usedAt}
 use Rattle.rules.proofs.Place.{used-at}
-use Rattle.rules.proofs.Part.{legal-front, legal-back}
 use Rattle.rules.specs.Rules.{byteOf, nameOf, listed}
-use Rattle.rules.specs.Sound.{liveSum, CacheRight}
+use Rattle.rules.specs.Sound.{liveSum}
 
 -- the sum of f over numbers
 abbrev pub sumBy : (ℕ → ℕ) → List ℕ → ℕ

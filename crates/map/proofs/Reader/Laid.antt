@@ -1,5 +1,5 @@
 -- ROWS LAID into the room: laws of `wordsIn` and `over` (`specs/Steps.antt`), and of `readInto` (`specs/Calls.antt`). Assumes nothing.
---     words-bad, words-on, words-read, length-words     the words of lines, and of rows
+--     words-bad, words-on, words-read     the words of lines
 --     laying-start, laying-end, laying-bad, laying-on     words laid in a loop
 --     into-none, into-bad, into-short, into-done     a map read into the room, as the answers have it
 use mathlib.Core.Path.{_≡_, refl, sym, ap, subst, _∙_}
@@ -22,6 +22,7 @@ use Rattle.map.specs.Rows.{wordsOf}
 use Rattle.map.specs.Reading.{rowIn, start, followsᵇ, past, Read, rows, bad, before, lineRead, readFrom, readAll}
 use Rattle.map.specs.Steps.{counted, wordsOn, wordsIn, over}
 use Rattle.map.specs.Calls.{laid, readInto}
+use Rattle.map.proofs.Lines.{length-words}
 use Rattle.map.proofs.Reader.AllLines.{counted-rows, counted-bad}
 
 -- ---- words of lines
@@ -74,12 +75,6 @@ words-read most places (suc f) p k bs rs e =
         → wordsIn (length rs) bs ≡ wordsOf rs
     go on true e = let h : [] ≡ rs = cc in subst (λ (x : List Row). wordsIn (length x) bs ≡ wordsOf x) h refl
     go on false e = on e
-
--- rows have three words each
-pub length-words : (rs : List Row) → length (wordsOf rs) ≡ length rs * 3
-unfolding wordsOf
-length-words [] = refl
-length-words (r ∷ rs) = omega (arith, length-words rs)
 
 -- ---- words laid in a loop: k rows are laid, and the next line begins at byte i
 
