@@ -1,9 +1,9 @@
 // The replay: answers frames as the trace program does, and after each answer prints the whole state of the heap in use, and its map.
 //
-// A state is a line of numbers, each eight digits after a space: the words of the heap, bytes in use, peak, high water, the cached chunk's link
-// (0 for none), the flag; the six prev and the six next links of the sentinels; then every word of the heap. The lines of the map (W-201) come after
-// it: one for each chunk, none before a heap is made. The file `stdin` holds requests, and `stdout` the original's states and their maps after each,
-// in the same form (tests/trace/README.md): the check of this crate compares them byte by byte.
+// A state is a line of numbers, each eight digits after a space: the words of the heap, bytes in use, bytes committed, peak, high water, the
+// cached chunk's link (0 for none), the flag; the six prev and the six next links of the sentinels; then every word of the heap. The lines of
+// the map (W-201) come after it: one for each chunk, none before a heap is made. The file `stdin` holds requests, and `stdout` the original's
+// states and their maps after each, in the same form (tests/trace/README.md): the check of this crate compares them byte by byte.
 ghost use Prim.Native.Nat.{_≤_};
 ghost use lib.ListN.{length};
 use frame::Line;
@@ -134,8 +134,16 @@ fn put_figures(output: Output, out: &mut [u8], rec: Record) -> Output
     let fresh = rec.fresh;
     let flag: u32 = if fresh { 1 } else { 0 };
     let cached = rec.cached.0 as u32;
-    let figures = [rec.words, rec.in_use, rec.peak, rec.high, cached, flag];
-    put_words(output, out, &figures, 6)
+    let figures = [
+        rec.words,
+        rec.in_use,
+        rec.committed,
+        rec.peak,
+        rec.high,
+        cached,
+        flag,
+    ];
+    put_words(output, out, &figures, 7)
 }
 
 // Puts six links.
