@@ -182,7 +182,7 @@ module _ (r : Record) (ws : List ℕ) (z : ℕ) where
   unfolding serve fromCache
   served-listed o b eb h eo = rw (chosen-no (sym eb ∙ h)) eo
 
-  -- it is held no more than the rest: what is in use with it stays in range
+  -- in use and its length are both committed: their sum stays in range
   pub served-safe : (b : Bool) (i n : ℕ) → Served (seen r ws) z → r .committed < 2 ^ 32 → b ≡ cacheServes (seen r ws) z → b ≡ true → i ≡ r .cached .0 - 6
       → n ≡ lengthOf (at ws i) → r .«in_use» + n < 2 ^ 32
   served-safe b i n ok hc eb h ei en =

@@ -1,5 +1,5 @@
-// The record: what heap.rs keeps in statics (SENTINELS, CACHED, CUR_ALLOC_SIZE, MAX_ALLOC_SIZE, HIGH_WATER_MARK and its flag). CUR_ALLOC_SIZE is `committed` here;
-// `in_use` is what tasks hold of it.
+// The record: what heap.rs keeps in statics (SENTINELS, CACHED, CUR_ALLOC_SIZE, MAX_ALLOC_SIZE, HIGH_WATER_MARK and its flag).
+// CUR_ALLOC_SIZE is `committed` here, and `in_use` what tasks hold of it.
 //
 // It is plain data, passed and handed back by value; all bytes zero is the empty record, as a kernel's static memory is at reset.
 ghost use mathlib.Core.Path.{_≡_};
