@@ -17,7 +17,7 @@ use Rattle.frame.specs.Hex.{allDigits, valueOf, digitsOf}
 use Rattle.frame.specs.Answer.{answerBytes}
 use Rattle.frame.proofs.Laws.Hex.{all-append, value-of-digits, digits-of-value, value-below}
 use Rattle.frame.proofs.Laws.Hex as hex
-use Rattle.frame.proofs.Laws.Answer.{answer-number, answer-value, answer-compared, answer-digits, answer-end}
+use Rattle.frame.proofs.Laws.Answer.{length-answer, answer-number, answer-value, answer-compared, answer-digits, answer-end}
 use Rattle.map.specs.declared.rows.Row.{Row}
 use Rattle.map.specs.declared.rows.Line.the-variants.{Good, Bad}
 use Rattle.map.specs.Rows.{row, lineOf}
