@@ -1,4 +1,10 @@
 // The next line of standard input.
+ghost use mathlib.Core.Path.{_≡_};
+ghost use mathlib.Core.Bool.{true, false};
+ghost use Prim.Native.Nat.{_+_, _≤_, min};
+ghost use lib.ListN.{length, set};
+ghost use Rattle.lines.specs.Taking.{atStart, begun, ended, filled, keeping, Fills, TakesOne, TakesLine, keptLine};
+use super::get::get;
 use frame::Line;
 
 // Where reading stands.
@@ -19,7 +25,9 @@ pub struct Input {
 
 impl Input {
     // Nothing read yet.
-    pub fn start() -> Input {
+    pub fn start() -> Input
+        ensures { λ r. ⌜ r ≡ atStart ⌝ }
+    {
         Input {
             at: 0,
             end: 0,
@@ -31,7 +39,9 @@ impl Input {
     }
 
     // The same place with a new line begun.
-    fn begun(mut self) -> Input {
+    fn begun(mut self) -> Input
+        ensures { λ r. ⌜ r ≡ begun self ⌝ }
+    {
         self.kept = 0;
         self.open = true;
         self.fed = false;
@@ -39,14 +49,18 @@ impl Input {
     }
 
     // The line at an end: with its line feed or without.
-    fn ended(mut self, fed: bool) -> Input {
+    fn ended(mut self, fed: bool) -> Input
+        ensures { λ r. ⌜ r ≡ ended self fed ⌝ }
+    {
         self.open = false;
         self.fed = fed;
         self
     }
 
     // After a read of so many bytes, none for the input's end or a failure.
-    fn filled(mut self, end: usize, failed: bool) -> Input {
+    fn filled(mut self, end: usize, failed: bool) -> Input
+        ensures { λ r. ⌜ r ≡ filled self end failed ⌝ }
+    {
         self.at = 0;
         self.end = end;
         self.failed = failed;
@@ -55,7 +69,11 @@ impl Input {
 }
 
 // Reads up to the next line feed or the input's end. The line's bytes stand in `line`, without the line feed; `kept` says how many.
-pub fn next_line(input: Input, buffer: &mut [u8], line: &mut [u8]) -> Input {
+pub fn next_line(input: Input, buffer: &mut [u8], line: &mut [u8]) -> Input
+    ensures {
+        λ r. ⌜ TakesLine input (now (buffer .entry)) (now (line .entry)) r (now (buffer .exit)) (now (line .exit)) ⌝
+    }
+{
     let mut i = input.begun();
     let mut turns = u64::MAX;
     while 0 < turns && i.open {
@@ -66,7 +84,12 @@ pub fn next_line(input: Input, buffer: &mut [u8], line: &mut [u8]) -> Input {
 }
 
 // Takes one byte, or reads more where none is left.
-fn next_byte(input: Input, buffer: &mut [u8], line: &mut [u8]) -> Input {
+fn next_byte(input: Input, buffer: &mut [u8], line: &mut [u8]) -> Input
+    requires { ⌜ (input .«open» ≡ true) × (input .fed ≡ false) × (input .kept ≤ length (now line)) ⌝ }
+    ensures {
+        λ r. ⌜ TakesOne input (now (buffer .entry)) (now (line .entry)) r (now (buffer .exit)) (now (line .exit)) ⌝
+    }
+{
     let at = input.at;
     if at < input.end && at < buffer.len() {
         let mut i = input;
@@ -81,7 +104,10 @@ fn next_byte(input: Input, buffer: &mut [u8], line: &mut [u8]) -> Input {
 }
 
 // Keeps a byte of the line, if there is room for it.
-fn keep(input: Input, line: &mut [u8], byte: u8) -> Input {
+fn keep(input: Input, line: &mut [u8], byte: u8) -> Input
+    requires { ⌜ input .kept ≤ length (now line) ⌝ }
+    ensures { λ r. ⌜ (r ≡ keeping input (min (input .kept + 1) (length (now (line .entry))))) × (now (line .exit) ≡ set (now (line .entry)) (input .kept) byte) ⌝ }
+{
     let mut i = input;
     let k = i.kept;
     if k < line.len() {
@@ -92,19 +118,24 @@ fn keep(input: Input, line: &mut [u8], byte: u8) -> Input {
 }
 
 // Reads more bytes. At the input's end, and where the read fails, the line is at its end too.
-fn fill(input: Input, buffer: &mut [u8]) -> Input {
-    let got = libc::read(0, buffer);
-    if got <= 0 {
-        return input.filled(0, got < 0).ended(false);
+fn fill(input: Input, buffer: &mut [u8]) -> Input
+    ensures { λ r. ⌜ Fills input (now (buffer .entry)) r (now (buffer .exit)) ⌝ }
+{
+    let got = get(buffer);
+    let count = got.count;
+    let i = input.filled(count, got.failed);
+    if count == 0 {
+        return i.ended(false);
     }
-    let n = io::count(got, buffer);
-    input.filled(n, false)
+    i
 }
 
 // Reads the bytes kept of a line as a frame.
-pub fn read_kept(line: &[u8], kept: usize) -> Line {
+pub fn read_kept(line: &[u8], kept: usize) -> Line
+    ensures { λ r. ⌜ r ≡ keptLine (now (line .entry)) kept ⌝ }
+{
     if line.len() < kept {
         return Line::Bad;
     }
-    frame::read_line(&line[0..kept])
+    frame::read_line(&line[..kept])
 }

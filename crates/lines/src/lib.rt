@@ -1,5 +1,6 @@
 // Lines of standard input in constant memory, or all of it at once, and buffered standard output.
 //
+//     get      one read
 //     input    the next line: of a long line only the first bytes are kept, as many as there is room for
 //     whole    the whole input, or as much of it as there is room for
 //     output   a buffer, which is written out when it is full
@@ -7,6 +8,7 @@
 //
 // The buffers are the caller's. Nothing is proved here but that every call is safe and ends, given that each read and write returns: no
 // contract can say which bytes the system gives.
+mod get;
 mod input;
 mod output;
 mod put;

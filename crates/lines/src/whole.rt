@@ -1,6 +1,8 @@
 // The whole of standard input, or as much of it as there is room for.
 ghost use Prim.Native.Nat.{_≤_};
 ghost use lib.ListN.{length};
+ghost use Rattle.lines.specs.Taking.{ReadsOn, TakesWhole};
+use super::get::get;
 
 // What was read.
 pub struct Whole {
@@ -14,7 +16,7 @@ pub struct Whole {
 
 // Reads until the buffer is full, the input ends or a read fails.
 pub fn read_whole(buffer: &mut [u8]) -> Whole
-    ensures { λ r. ⌜ r .len ≤ length (now (buffer .exit)) ⌝ }
+    ensures { λ r. ⌜ TakesWhole (now (buffer .entry)) r (now (buffer .exit)) ⌝ }
 {
     let mut w = Whole {
         len: 0,
@@ -32,21 +34,15 @@ pub fn read_whole(buffer: &mut [u8]) -> Whole
 // One read, into the bytes behind those that were read before.
 fn read_on(before: Whole, buffer: &mut [u8]) -> Whole
     requires { ⌜ before .len ≤ length (now buffer) ⌝ }
-    ensures { λ r. ⌜ r .len ≤ length (now (buffer .exit)) ⌝ }
+    ensures { λ r. ⌜ ReadsOn before (now (buffer .entry)) r (now (buffer .exit)) ⌝ }
 {
     let len = before.len;
-    let got = libc::read(0, &mut buffer[len..]);
-    if got <= 0 {
-        return Whole {
-            len,
-            more: false,
-            failed: got < 0,
-        };
-    }
-    let n = io::count(got, &buffer[len..]);
+    let all = buffer.len();
+    let got = get(&mut buffer[len..]);
+    let end = len + got.count;
     Whole {
-        len: len + n,
-        more: len + n < buffer.len(),
-        failed: false,
+        len: end,
+        more: 0 < got.count && end < all,
+        failed: got.failed,
     }
 }
