@@ -1,6 +1,6 @@
 -- LAWS OF READS: what lists of reads gave, one behind the other. Each by the first list.
 use mathlib.Core.Path.{_≡_, refl, sym, ap, _∙_}
-use mathlib.Core.Bool.{Bool, true, false}
+use mathlib.Core.Bool.{Bool, true}
 use mathlib.Core.List.{List, [], _∷_, _++_, append-assoc}
 use Prim.Native.Nat.{ℕ, _≤_}
 use native.Mathlib.Omega.{arith}
@@ -13,7 +13,7 @@ use mir.Syntax.{w64}
 use mir.Val.{SFits, toZ, ofZ}
 use mir.ValLaws.{toZ-ofZ}
 use Rattle.io.specs.Counts.{clamped}
-use Rattle.lines.specs.Given.{Read, count, given, allGiven, failing, latest, Reads, never, nothing, something}
+use Rattle.lines.specs.Given.{Read, count, given, allGiven, failing, latest, Reads, never, something}
 
 -- what two lists of reads gave
 pub all-given-append : (rs qs : List Read) → allGiven (rs ++ qs) ≡ allGiven rs ++ allGiven qs
@@ -31,7 +31,8 @@ lent next n [] = n
 lent next n (r ∷ rs) = lent next (next n (count r)) rs
 
 -- reads go on after reads that each gave something
-pub reads-append : {next : ℕ → ℕ → ℕ} {n : ℕ} {rs qs : List Read} {on : Bool} → Reads next n rs true → Reads next (lent next n rs) qs on → Reads next n (rs ++ qs) on
+pub reads-append : {next : ℕ → ℕ → ℕ} {n : ℕ} {rs qs : List Read} {on : Bool} → Reads next n rs true → Reads next (lent next n rs) qs on
+    → Reads next n (rs ++ qs) on
 reads-append never q = q
 reads-append (something a p h) q = something a p (reads-append h q)
 

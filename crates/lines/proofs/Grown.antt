@@ -9,12 +9,12 @@ use native.Mathlib.Omega.{arith}
 use borrow.Author.Tests.{ltb-true, ltb-false}
 use borrow.Rule.Slice.PartMut.{midOf, putMid, mid-len, post-is}
 use lib.Dec.{ltb}
-use lib.ListN.{length, take, drop, length-append, take-append-drop}
+use lib.ListN.{length, take, length-append, take-append-drop}
 use lib.Seq.{drop-length, take-at}
 use Rattle.lines.specs.declared.get.Got.{Got}
 use Rattle.lines.specs.declared.whole.Whole.{Whole}
 use Rattle.lines.specs.Given.{Read, Allowed, count, given, spare, allGiven, failing, latest, Gets, Reads, never, nothing, something}
-use Rattle.lines.specs.Taking.{grown, ReadsOn, TakesWhole}
+use Rattle.lines.specs.Taking.{allTurns, ReadsOn, TakesWhole}
 use Rattle.lines.proofs.GivenLaws.{all-given-append, latest-append, lent, reads-append, count-le, length-given}
 
 -- A READ AS THE CODE MAKES IT, into what lies behind the first w .len bytes
@@ -27,16 +27,21 @@ module _ (w : Whole) (xs zs : List ℕ) (got : Got) (room : w .len ≤ length xs
   pub got-fits : w .len + got .count ≤ length xs
   got-fits = omega (arith, g .counts, count-le (g .read), g .allowed .same, rest-long)
 
+  -- whether reading goes on, by the read's own number
+  goes-by : {more : Bool} → more ≡ (ltb 0 (got .count) && ltb (w .len + got .count) (length xs))
+      → more ≡ (ltb 0 (count (g .read)) && ltb (w .len + count (g .read)) (length xs))
+  goes-by e = e ∙ ap (λ k. ltb 0 k && ltb (w .len + k) (length xs)) (g .counts)
+
+  -- the read is made, and the bytes before it stay
   pub reads-on : (more : Bool) → more ≡ (ltb 0 (got .count) && ltb (w .len + got .count) (length xs))
       → ReadsOn w xs (record { len = w .len + got .count; more = more; failed = got .failed }) (putMid (w .len) (length xs - w .len) xs zs)
-  reads-on more e =
-    let m : more ≡ (ltb 0 (count (g .read)) && ltb (w .len + count (g .read)) (length xs)) = e ∙ ap (λ k. ltb 0 k && ltb (w .len + k) (length xs)) (g .counts) in record {
+  reads-on more e = record {
     read = g .read;
     allowed = rw rest-long at (g .allowed);
     left =
         ap (λ l. take (w .len) xs ++ (zs ++ l)) (post-is (w .len) (length xs) xs room ∙ drop-length xs)
         ∙ ap (λ l. take (w .len) xs ++ l) (append-nil zs ∙ g .left);
-    so = λ i. record { len = w .len + g .counts i; more = m i; failed = g .fails i };
+    so = λ i. record { len = w .len + g .counts i; more = goes-by e i; failed = g .fails i };
   }
 
 -- THE WHOLE SO FAR, after all turns but those left
@@ -49,14 +54,14 @@ pub record Growing (xs zs : List ℕ) (w : Whole) (left : ℕ) : Type 0 where
   pub same : length zs ≡ length xs
   pub fits : w .len ≤ length zs
   pub fails : w .failed ≡ latest (λ r. failing (r .answer)) false reads
-  pub spent : left + length reads ≡ 18446744073709551615
+  pub spent : left + length reads ≡ allTurns
   -- it goes on only where each read gave something, and then there is room left, or no read was made
-  pub going : w .more ≡ true → (on ≡ true) × (length reads ≤ w .len) × ((w .len < length xs) ⊎ (left ≡ 18446744073709551615))
+  pub going : w .more ≡ true → (on ≡ true) × (length reads ≤ w .len) × ((w .len < length xs) ⊎ (left ≡ allTurns))
   -- it ends where one gave nothing, or where there is no room left
   pub ending : w .more ≡ false → on ≡ true → w .len ≡ length xs
 
 -- nothing read yet
-pub growing-first : (xs : List ℕ) → Growing xs xs (record { len = 0; more = true; failed = false }) 18446744073709551615
+pub growing-first : (xs : List ℕ) → Growing xs xs (record { len = 0; more = true; failed = false }) allTurns
 growing-first xs = record {
   reads = [];
   on = true;
@@ -83,7 +88,7 @@ one-read {n} {q} a = go (ltb 0 (count q)) refl
 lent-rest : (n : ℕ) (rs : List Read) → lent (λ n k. n - k) n rs ≡ n - length (allGiven rs)
 lent-rest n [] = omega arith
 lent-rest n (r ∷ rs) =
-    lent-rest (n - count r) rs ∙ (let e : length (given r ++ allGiven rs) ≡ count r + length (allGiven rs) = length-append (given r) (allGiven rs) ∙ ap (λ k. k + length (allGiven rs)) (length-given r) in rw e (omega arith))
+    lent-rest (n - count r) rs ∙ omega (arith, length-append (given r) (allGiven rs), length-given r)
 
 -- both of two flags
 both : (s t : Bool) → (s && t) ≡ true → (s ≡ true) × (t ≡ true)
@@ -91,7 +96,8 @@ both true t e = (refl, e)
 both false t e = absurd (true≢false (sym e))
 
 -- a read more
-module _ {xs zs vs : List ℕ} {w v : Whole} {left : ℕ} (g : Growing xs zs w left) (o : ReadsOn w zs v vs) (more : w .more ≡ true) (turn : 0 < left) (same : length vs ≡ length zs) where
+module _ {xs zs vs : List ℕ} {w v : Whole} {left : ℕ} (g : Growing xs zs w left) (o : ReadsOn w zs v vs) (more : w .more ≡ true) (turn : 0 < left)
+    (same : length vs ≡ length zs) where
   abbrev q : Read
   q = o .read
 
@@ -102,9 +108,11 @@ module _ {xs zs vs : List ℕ} {w v : Whole} {left : ℕ} (g : Growing xs zs w l
   all-of : allGiven rs ≡ allGiven (g .reads) ++ given q
   all-of = all-given-append (g .reads) (q ∷ []) ∙ ap (λ l. allGiven (g .reads) ++ l) (append-nil (given q))
 
+  -- and how much it is
   long : w .len + count q ≡ length (allGiven rs)
   long = rw (all-of, length-append, length-given) (ap (λ k. k + count q) (g .lasts))
 
+  -- it stands at the buffer's start
   stands : vs ≡ allGiven rs ++ spare q
   stands =
       o .left
@@ -113,16 +121,19 @@ module _ {xs zs vs : List ℕ} {w v : Whole} {left : ℕ} (g : Growing xs zs w l
       ∙ sym (append-assoc (allGiven (g .reads)) (given q) (spare q))
       ∙ ap (λ l. l ++ spare q) (sym all-of)
 
+  -- the read is lent what those before it had not given
   in-order : Reads (λ n k. n - k) (length xs) rs (ltb 0 (count q))
   in-order =
       let e : lent (λ n k. n - k) (length xs) (g .reads) ≡ length zs - w .len = lent-rest (length xs) (g .reads) ∙ omega (arith, g .same, g .lasts) in
       reads-append (rw (g .going more .0) at (g .order)) (rw e (one-read (o .allowed)))
 
+  -- it fits
   room : w .len + count q ≤ length zs
   room = omega (arith, count-le q, o .allowed .same, g .fits)
 
+  -- reading goes on: it gave something, and there is room left
   on-by : (ltb 0 (count q) ≡ true) × (ltb (w .len + count q) (length zs) ≡ true)
-      → (ltb 0 (count q) ≡ true) × (length rs ≤ w .len + count q) × ((w .len + count q < length xs) ⊎ (left - 1 ≡ 18446744073709551615))
+      → (ltb 0 (count q) ≡ true) × (length rs ≤ w .len + count q) × ((w .len + count q < length xs) ⊎ (left - 1 ≡ allTurns))
   on-by t =
       let k : 0 < count q = ltb-true 0 (count q) (t .0) in
       let l : w .len + count q < length zs = ltb-true (w .len + count q) (length zs) (t .1) in (
@@ -131,6 +142,7 @@ module _ {xs zs vs : List ℕ} {w v : Whole} {left : ℕ} (g : Growing xs zs w l
         inl (omega (arith, g .same)),
       )
 
+  -- reading ends though it gave something: there is no room left
   full-by : ltb (w .len + count q) (length zs) ≡ false → w .len + count q ≡ length xs
   full-by t = let l : length zs ≤ w .len + count q = ltb-false (w .len + count q) (length zs) t in omega (arith, room, g .same)
 
@@ -151,6 +163,7 @@ module _ {xs zs vs : List ℕ} {w v : Whole} {left : ℕ} (g : Growing xs zs w l
 
 -- THE WHOLE TAKEN
 module _ {xs zs : List ℕ} {w : Whole} {left : ℕ} (g : Growing xs zs w left) where
+  -- reading ended
   pub grown-ended : w .more ≡ false → TakesWhole xs w zs
   grown-ended off = record {
     reads = g .reads;
@@ -165,7 +178,7 @@ module _ {xs zs : List ℕ} {w : Whole} {left : ℕ} (g : Growing xs zs w left) 
   }
 
   -- with no turn left there would be more reads than bytes
-  pub grown-out : length xs ≤ 18446744073709551615 → left ≤ 0 → TakesWhole xs w zs
+  pub grown-out : length xs ≤ allTurns → left ≤ 0 → TakesWhole xs w zs
   grown-out most out = grown-ended (go (w .more) refl)
     where
       go : (t : Bool) → w .more ≡ t → t ≡ false

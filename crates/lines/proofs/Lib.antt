@@ -3,3 +3,4 @@ pub mod GivenLaws
 pub mod Stored
 pub mod Taken
 pub mod Grown
+pub mod Exactly

@@ -59,4 +59,5 @@ latest f a (r ∷ rs) = latest f (f r) rs
 pub data Reads (next : ℕ → ℕ → ℕ) : ℕ → List Read → Bool → Type 0 where
   never : {n : ℕ} → Reads next n [] true
   nothing : {n : ℕ} {r : Read} → Allowed n r → count r ≡ 0 → Reads next n (r ∷ []) false
-  something : {n : ℕ} {r : Read} {rs : List Read} {on : Bool} → Allowed n r → 0 < count r → Reads next (next n (count r)) rs on → Reads next n (r ∷ rs) on
+  something : {n : ℕ} {r : Read} {rs : List Read} {on : Bool} → Allowed n r → 0 < count r → Reads next (next n (count r)) rs on
+      → Reads next n (r ∷ rs) on

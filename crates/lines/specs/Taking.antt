@@ -1,10 +1,11 @@
--- WHAT IS TAKEN OF STANDARD INPUT, and what becomes of it: a line in a lent room, or the whole in a lent buffer.
+-- WHAT IS TAKEN OF STANDARD INPUT, and what becomes of it: a line in a lent room, or the whole in a lent buffer. Which reads were made no contract can say;
+-- each record here says it of some, and the same reads give the same outcome (proofs/Exactly.antt).
 use mathlib.Core.Path.{_≡_}
 use mathlib.Core.Bool.{Bool, true, false, _&&_, _||_, cond}
 use mathlib.Core.List.{List, [], _∷_, _++_, List·Memᴰ}
 use Prim.Native.Nat.{ℕ, _+_, _-_, _≤_, min}
 use lib.Dec.{ltb}
-use lib.ListN.{length, take}
+use lib.ListN.{length, set, take}
 use lib.Seq.{slice, sets}
 use Rattle.frame.specs.declared.line.Line.{Line}
 use Rattle.frame.specs.declared.line.Line.the-variants.{Bad}
@@ -12,6 +13,10 @@ use Rattle.frame.specs.Line.{lineOf}
 use Rattle.lines.specs.declared.input.Input.{Input}
 use Rattle.lines.specs.declared.whole.Whole.{Whole}
 use Rattle.lines.specs.Given.{Read, Allowed, count, spare, allGiven, failing, latest, Reads}
+
+-- the turns that a call has
+abbrev pub allTurns : ℕ
+allTurns = 18446744073709551615
 
 -- nothing read yet
 abbrev pub atStart : Input
@@ -37,6 +42,11 @@ refilled i r = cond (ltb 0 (count r)) (filled i (count r) (failing (r .answer)))
 abbrev pub keeping : Input → ℕ → Input
 keeping i n = record { at = i .at; end = i .end; kept = n; «open» = i .«open»; fed = i .fed; failed = i .failed }
 
+-- A BYTE KEPT, if there is room
+pub record Keeps (before : Input) (line : List ℕ) (byte : ℕ) (after : Input) (line' : List ℕ) : Type 0 where
+  pub so : after ≡ keeping before (min (before .kept + 1) (length line))
+  pub stored : line' ≡ set line (before .kept) byte
+
 -- A READ MADE, into the whole buffer
 pub record Fills (before : Input) (buffer : List ℕ) (after : Input) (buffer' : List ℕ) : Type 0 where
   pub read : Read
@@ -53,10 +63,10 @@ abbrev pub feed : Bool → List ℕ
 feed true = 10 ∷ []
 feed false = []
 
--- TEXT TAKEN of a line: of the bytes not looked at yet and those that reads gave, those up to the next line feed
+-- TEXT TAKEN of a line: of the bytes not looked at yet and those that reads gave, those up to the next line feed, or so far
 pub record Takes (before : Input) (buffer line : List ℕ) (after : Input) (buffer' line' : List ℕ) : Type 0 where
   pub reads : List Read
-  -- the text, without a line feed
+  -- without a line feed
   pub text : List ℕ
   -- each read is lent the whole buffer; one that gives nothing, at the input's end or because it failed, is the last and ends the line
   pub order : Reads (λ n k. n) (length buffer) reads (after .«open» || after .fed)
@@ -69,7 +79,7 @@ pub record Takes (before : Input) (buffer line : List ℕ) (after : Input) (buff
   pub bytes : buffer' ≡ latest (λ r. r .left) buffer reads
   pub ends : after .end ≡ latest count (before .end) reads
   pub fails : after .failed ≡ latest (λ r. failing (r .answer)) (before .failed) reads
-  -- the text stands behind what was kept, as much of it as there is room for
+  -- the text stands behind what was kept, as much of it as there is room for: stores past the room's end do nothing
   pub keeps : after .kept ≡ min (before .kept + length text) (length line)
   pub stored : line' ≡ sets line (before .kept) text
 
@@ -82,18 +92,24 @@ pub record Within (i : Input) (buffer : List ℕ) : Type 0 where
 abbrev pub work : {a b : Input} {xs ys zs ws : List ℕ} → Takes a xs ys b zs ws → ℕ
 work {b = b} t = length (t .text) + length (feed (b .fed)) + length (t .reads)
 
+-- a line that goes on, with no more bytes kept than there is room for
+pub record GoesOn (i : Input) (line : List ℕ) : Type 0 where
+  pub on : i .«open» ≡ true
+  pub unfed : i .fed ≡ false
+  pub room : i .kept ≤ length line
+
 -- A TURN: one byte looked at, or one read
 pub record TakesOne (before : Input) (buffer line : List ℕ) (after : Input) (buffer' line' : List ℕ) : Type 0 where
   pub takes : Takes before buffer line after buffer' line'
   pub one : work takes ≡ 1
   pub within : Within after buffer'
 
--- A LINE TAKEN. It goes on afterwards only where all turns are used up
+-- A LINE TAKEN, from its first byte. It goes on afterwards only where all turns are used up
 pub record TakesLine (before : Input) (buffer line : List ℕ) (after : Input) (buffer' line' : List ℕ) : Type 0 where
   pub takes : Takes (begun before) buffer line after buffer' line'
   pub within : Within after buffer'
-  pub turns : work takes ≤ 18446744073709551615
-  pub out : after .«open» ≡ true → work takes ≡ 18446744073709551615
+  pub turns : work takes ≤ allTurns
+  pub out : after .«open» ≡ true → work takes ≡ allTurns
 
 -- the bytes kept of a line, read as a frame; no frame where the line is not so long
 abbrev pub keptLine : List ℕ → ℕ → Line

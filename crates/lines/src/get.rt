@@ -1,4 +1,4 @@
-// One read of standard input.
+// One read of standard input. The contract cites specs/Given.antt.
 ghost use Rattle.lines.specs.Given.{Gets};
 
 // What a read gave.

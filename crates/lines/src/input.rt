@@ -1,9 +1,8 @@
-// The next line of standard input.
+// The next line of standard input. Contracts cite specs/Taking.antt.
 ghost use mathlib.Core.Path.{_≡_};
-ghost use mathlib.Core.Bool.{true, false};
-ghost use Prim.Native.Nat.{_+_, _≤_, min};
-ghost use lib.ListN.{length, set};
-ghost use Rattle.lines.specs.Taking.{atStart, begun, ended, filled, keeping, Fills, TakesOne, TakesLine, keptLine};
+ghost use Prim.Native.Nat.{_≤_};
+ghost use lib.ListN.{length};
+ghost use Rattle.lines.specs.Taking.{atStart, begun, ended, filled, Keeps, Fills, GoesOn, TakesOne, TakesLine, keptLine};
 use super::get::get;
 use frame::Line;
 
@@ -70,9 +69,7 @@ impl Input {
 
 // Reads up to the next line feed or the input's end. The line's bytes stand in `line`, without the line feed; `kept` says how many.
 pub fn next_line(input: Input, buffer: &mut [u8], line: &mut [u8]) -> Input
-    ensures {
-        λ r. ⌜ TakesLine input (now (buffer .entry)) (now (line .entry)) r (now (buffer .exit)) (now (line .exit)) ⌝
-    }
+    ensures { λ r. ⌜ TakesLine input (now (buffer .entry)) (now (line .entry)) r (now (buffer .exit)) (now (line .exit)) ⌝ }
 {
     let mut i = input.begun();
     let mut turns = u64::MAX;
@@ -85,10 +82,8 @@ pub fn next_line(input: Input, buffer: &mut [u8], line: &mut [u8]) -> Input
 
 // Takes one byte, or reads more where none is left.
 fn next_byte(input: Input, buffer: &mut [u8], line: &mut [u8]) -> Input
-    requires { ⌜ (input .«open» ≡ true) × (input .fed ≡ false) × (input .kept ≤ length (now line)) ⌝ }
-    ensures {
-        λ r. ⌜ TakesOne input (now (buffer .entry)) (now (line .entry)) r (now (buffer .exit)) (now (line .exit)) ⌝
-    }
+    requires { ⌜ GoesOn input (now line) ⌝ }
+    ensures { λ r. ⌜ TakesOne input (now (buffer .entry)) (now (line .entry)) r (now (buffer .exit)) (now (line .exit)) ⌝ }
 {
     let at = input.at;
     if at < input.end && at < buffer.len() {
@@ -106,7 +101,7 @@ fn next_byte(input: Input, buffer: &mut [u8], line: &mut [u8]) -> Input
 // Keeps a byte of the line, if there is room for it.
 fn keep(input: Input, line: &mut [u8], byte: u8) -> Input
     requires { ⌜ input .kept ≤ length (now line) ⌝ }
-    ensures { λ r. ⌜ (r ≡ keeping input (min (input .kept + 1) (length (now (line .entry))))) × (now (line .exit) ≡ set (now (line .entry)) (input .kept) byte) ⌝ }
+    ensures { λ r. ⌜ Keeps input (now (line .entry)) byte r (now (line .exit)) ⌝ }
 {
     let mut i = input;
     let k = i.kept;

@@ -6,8 +6,9 @@
 //     output   a buffer, which is written out when it is full
 //     put      an answer line, a number, bytes, lines into that buffer
 //
-// The buffers are the caller's. Nothing is proved here but that every call is safe and ends, given that each read and write returns: no
-// contract can say which bytes the system gives.
+// The buffers are the caller's. Every call is safe and ends, given that each read and write returns. No contract can say which bytes the system
+// gives; those of the input say what becomes of each of them (specs/Given.antt, specs/Taking.antt), and proofs/Exactly.antt that the same reads
+// give the same line and the same whole. Of the output nothing more is proved.
 mod get;
 mod input;
 mod output;

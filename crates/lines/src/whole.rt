@@ -1,4 +1,4 @@
-// The whole of standard input, or as much of it as there is room for.
+// The whole of standard input, or as much of it as there is room for. Contracts cite specs/Taking.antt.
 ghost use Prim.Native.Nat.{_≤_};
 ghost use lib.ListN.{length};
 ghost use Rattle.lines.specs.Taking.{ReadsOn, TakesWhole};
@@ -8,7 +8,7 @@ use super::get::get;
 pub struct Whole {
     // how many bytes stand at the start of the buffer
     pub len: usize,
-    // the buffer is not full and the input goes on
+    // the buffer is not full and the input goes on; off once all is read
     pub more: bool,
     // a read failed
     pub failed: bool,

@@ -1,3 +1,4 @@
+-- `lines::get::get` meets its contract. The answer's bits are read back as the answer, since it fits.
 use mathlib.Core.Path.{refl, ap, _∙_}
 use borrow.Author.Needs.{needs}
 use lib.ListN.{length}
@@ -8,24 +9,16 @@ use Rattle.io.specs.Counts.{clamped}
 use Rattle.lines.proofs.GivenLaws.{failing-below}
 use Rattle.lines.proofs.get.get.Statement.{statement}
 use Rattle.lines.proofs.get.get.Tie as tie
-use Rattle.lines.proofs.get.get.Reads as reads
-use Rattle.lines.proofs.get.get.Lts as lts
-use Rattle.io.proofs.count.Reads as count-reads
-use Rattle.libc.proofs.read.Reads as read-reads
 
--- src/get.rt:16:9
 read-requires : tie.Need-read-requires
 read-requires c κs = search needs
 
--- src/get.rt:17:9
 count-requires : tie.Need-count-requires
 count-requires c κs = search needs
 
--- src/get.rt:13:1
 same-length : tie.Need-same-length
 same-length c = search needs
 
--- src/get.rt:13:1
 returns : tie.Need-returns
 returns c =
     let z = c .before .before .before .before .read .result in

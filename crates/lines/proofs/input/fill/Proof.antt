@@ -1,38 +1,27 @@
+-- `lines::input::fill` meets its contract: by whether the read gave something.
 use borrow.Author.Needs.{needs}
 use Rattle.lines.proofs.Taken.{fills-some, fills-none}
 use Rattle.lines.proofs.input.fill.Statement.{statement}
 use Rattle.lines.proofs.input.fill.Tie as tie
-use Rattle.lines.proofs.input.fill.Reads as reads
-use Rattle.lines.proofs.input.fill.Lts as lts
-use Rattle.lines.proofs.get.get.Reads as get-reads
-use Rattle.lines.proofs.input.Input.ended.Reads as ended-reads
-use Rattle.lines.proofs.input.Input.filled.Reads as filled-reads
 
--- src/input.rt:124:9
 get-requires : tie.Need-get-requires
 get-requires c κs = search needs
 
--- src/input.rt:126:9
 filled-requires : tie.Need-filled-requires
 filled-requires c κs = search needs
 
--- src/input.rt:128:9
 ended-requires : tie.Need-ended-requires
 ended-requires c κs = search needs
 
--- src/input.rt:128:9
 same-length : tie.Need-same-length
 same-length c = search needs
 
--- src/input.rt:128:9
 returns : tie.Need-returns
 returns c = fills-none _ (c .before .before .before .before .before .get .ensures) (c .before .before .filled .ensures) (c .before .if1 .taken) (c .ended .ensures)
 
--- src/input.rt:121:1
 same-length-2 : tie.Need-same-length-2
 same-length-2 c = search needs
 
--- src/input.rt:121:1
 returns-2 : tie.Need-returns-2
 returns-2 c = fills-some _ (c .before .before .before .before .get .ensures) (c .before .filled .ensures) (c .if1 .left)
 
