@@ -6,7 +6,7 @@
 --     line-ends           a line that ends without a line feed leaves nothing to look at
 --     whole-determined    the same reads give the same whole: figures and buffer
 --     whole-shown         the first bytes of the buffer, as many as it says, are what the reads gave
--- Rests on `Taken.antt`, `Grown.antt` and `Stored.antt`. Assumes nothing.
+-- Rests on `Stored.antt`. Assumes nothing.
 use mathlib.Core.Path.{_≡_, refl, sym, ap, _∙_}
 use mathlib.Core.Bool.{Bool, true, false, not, _&&_, _||_, true≢false, or-true}
 use mathlib.Core.List.{List, [], _∷_, _++_, List·Memᴰ, List·Memᴰ·head, List·Memᴰ·tail}
@@ -198,11 +198,15 @@ first-bytes n l h = go (leb (length l) n) refl
 pub line-read : {b i : Input} {xs ys zs us : List ℕ} (t : TakesLine b xs ys i zs us) → 10 < length ys → keptLine us (i .kept) ≡ lineOf (t .takes .text)
 line-read {b} {i} {xs} {ys} {zs} {us} t h =
     let l : length us ≡ length ys = ap length (t .takes .stored) ∙ length-sets ys 0 (t .takes .text) in
-    let k : length (take (length ys) (t .takes .text)) ≡ i .kept = length-take (length ys) (t .takes .text) ∙ omega (arith, line-shown t .0) in
-    let e : take (i .kept) us ≡ take (length ys) (t .takes .text) =
-    ap (λ m. take (i .kept) m) (line-shown t .1) ∙ take-at (take (length ys) (t .takes .text)) (drop (length (t .takes .text)) ys) (i .kept) k
-    in
-    rw (le-ltb (length us) (i .kept) (omega (arith, line-shown t .0))) (ap lineOf e ∙ first-bytes (length ys) (t .takes .text) h)
+    rw (le-ltb (length us) (i .kept) (omega (arith, line-shown t .0))) (ap lineOf kept ∙ first-bytes (length ys) (t .takes .text) h)
+  where
+    many : length (take (length ys) (t .takes .text)) ≡ i .kept
+    many = length-take (length ys) (t .takes .text) ∙ omega (arith, line-shown t .0)
+
+    kept : take (i .kept) us ≡ take (length ys) (t .takes .text)
+    kept =
+        ap (λ m. take (i .kept) m) (line-shown t .1)
+        ∙ take-at (take (length ys) (t .takes .text)) (drop (length (t .takes .text)) ys) (i .kept) many
 
 -- THE SAME READS GIVE THE SAME WHOLE
 pub whole-determined : {xs zs vs : List ℕ} {w v : Whole} (p : TakesWhole xs w zs) (q : TakesWhole xs v vs) → p .reads ≡ q .reads

@@ -1,2 +1,3 @@
+-- What the contracts cite: reads, and what is taken of the input.
 pub mod Given
 pub mod Taking
