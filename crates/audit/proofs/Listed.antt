@@ -16,15 +16,16 @@ use Rattle.audit.specs.declared.tiling.Seen.the-variants.{Bad, Free, Use
 use Rattle.audit.specs.declared.rings.Followed.the-variants.{Long}
 use Rattle.audit.specs.Layout.{Chunk, pick, Tiles, freeLinks}
 use Rattle.audit.specs.Walk.{chunkOf}
-use Rattle.audit.specs.Rings.{count, nextOf, prevOf, insideᵇ, chained, listOf}
-use Rattle.audit.specs.Window.{freeSeen, freeOf}
-use Rattle.audit.proofs.Counting.{none-or-some, chain-once, no-longer, all-equal}
+use Rattle.audit.specs.Rings.{count, nextOf, prevOf, Inside, insideᵇ, chained, listOf}
+use Rattle.audit.specs.Window.{isFree, freeSeen, freeOf}
+use Rattle.audit.proofs.Counting.{none-or-some, le-or-lt, chain-once, no-longer, all-equal}
 use Rattle.audit.proofs.Sound.{ListRight}
 use Rattle.audit.proofs.tiling.Headers.{pick-is, free-not-bad, free-room}
 use Rattle.audit.proofs.tiling.Finds.{found-seen, chunk-in}
 use Rattle.audit.proofs.tiling.Places.{in-free, free-in, links-few}
-use Rattle.audit.proofs.rings.Nodes.{inside-is}
+use Rattle.audit.proofs.rings.Nodes.{inside-is, inside-low}
 use Rattle.audit.proofs.rings.Chases.{Passing, follow-sound, follow-complete, chain-list}
+use Rattle.audit.proofs.windows.Steps.{Opened}
 use Rattle.audit.proofs.windows.Lists.{free-of-at}
 
 -- a link that names a free chunk of class c
@@ -43,22 +44,24 @@ free-of-is ws c x e =
     (λ v. (ltb-false x 6 (v .0), free-seen-is c _ (v .1)))
     (pick-is _ _ _ _ e)
 
--- a free chunk lies before the guard
-free-inside : (ws : List ℕ) (c x : ℕ) → freeOf ws c x ≡ true → insideᵇ ws x ≡ true
-unfolding insideᵇ pick
-free-inside ws c x e =
+-- a free chunk lies from the first one on, and before the guard
+free-inside : (ws : List ℕ) (first c x : ℕ) → Opened ws first → freeOf ws c x ≡ true → insideᵇ ws first x ≡ true
+unfolding insideᵇ pick isFree
+free-inside ws first c x o e =
     let h = free-of-is ws c x e in
     let n = h .1 .0 in
     let r = found-seen ws (x - 6) (Free n) (free-not-bad n) (h .1 .1) in
     let b = free-room ws (x - 6) (r .0) n (r .1) in
-    simp (le-ltb x 6 (h .0), lt-ltb (x - 6 + 1) (length ws) (omega (arith, b)))
+    let late : first ≤ x - 6 =
+    ⊎-elim (λ i. i) (λ i. absurd (false≢true (sym (o .bare (x - 6) i) ∙ ap isFree (h .1 .1)))) (le-or-lt first (x - 6)) in
+    simp (le-ltb x 6 (h .0), le-ltb (x - 6) first late, lt-ltb (x - 6 + 1) (length ws) (omega (arith, b)))
 
 -- THE FIRST LINKS of a ring are its order
-module _ (prev next : List Link) (ws : List ℕ) (c n : ℕ) (e : chained prev next ws c ≡ Long n) where
+module _ (prev next : List Link) (ws : List ℕ) (first c n : ℕ) (e : chained prev next ws first c ≡ Long n) where
   -- what is followed to its end
-  ring : Passing (nextOf next ws) (prevOf prev ws) (insideᵇ ws) c c 0 n
+  ring : Passing (nextOf next ws) (prevOf prev ws) (insideᵇ ws first) c c 0 n
   unfolding chained
-  ring = follow-sound (nextOf next ws) (prevOf prev ws) (insideᵇ ws) c (length ws + 1) c 0 n e
+  ring = follow-sound (nextOf next ws) (prevOf prev ws) (insideᵇ ws first) c (length ws + 1) c 0 n e
 
   -- its order is what next alone gives
   ring-order : listOf (nextOf next ws) n c ≡ ring .order
@@ -66,9 +69,17 @@ module _ (prev next : List Link) (ws : List ℕ) (c n : ℕ) (e : chained prev n
       let q : n ≡ length (ring .order) = omega (arith, ring .long) in
       ap (λ (k : ℕ). listOf (nextOf next ws) k c) q ∙ chain-list (nextOf next ws) (prevOf prev ws) c (ring .order) c (ring .chain)
 
-  -- and its links lie before the guard
-  pub ring-inside : (x : ℕ) → 0 < count x (listOf (nextOf next ws) n c) → (6 ≤ x) × (x - 6 + 1 < length ws)
-  ring-inside x i = inside-is ws x (ring .good x (subst (λ (o : List ℕ). 0 < count x o) ring-order i))
+  -- and its links pass the test
+  ring-good : (x : ℕ) → 0 < count x (listOf (nextOf next ws) n c) → insideᵇ ws first x ≡ true
+  ring-good x i = ring .good x (subst (λ (o : List ℕ). 0 < count x o) ring-order i)
+
+  -- so they lie before the guard
+  pub ring-inside : (x : ℕ) → 0 < count x (listOf (nextOf next ws) n c) → Inside ws x
+  ring-inside x i = inside-is ws first x (ring-good x i)
+
+  -- and not before the first free chunk
+  pub ring-onward : (x : ℕ) → 0 < count x (listOf (nextOf next ws) n c) → first ≤ x - 6
+  ring-onward x i = inside-low ws first x (ring-good x i)
 
 module _ (ws : List ℕ) (cs : List Chunk) (t : Tiles ws 0 true cs) (c : ℕ) where
   -- the links of the free chunks of class c are those that name one
@@ -86,17 +97,17 @@ module _ (ws : List ℕ) (cs : List Chunk) (t : Tiles ws 0 true cs) (c : ℕ) wh
       let r = free-in cs ws 0 true t c x e in
       free-of-at ws c x (Free (r .1 .0)) (omega (arith, r .0)) (chunk-in ws cs (x - 6) t ∙ r .1 .1) ∙ eq-eqb _ _ (r .1 .2)
 
-  module _ (prev next : List Link) (c6 : c < 6) where
+  module _ (prev next : List Link) (first : ℕ) (c6 : c < 6) where
     -- A RING OF THE RIGHT LENGTH, with free chunks of the class only, has each of them once
-    pub list-right : (n : ℕ) → n ≡ length (freeLinks c 0 cs) → chained prev next ws c ≡ Long n
+    pub list-right : (n : ℕ) → n ≡ length (freeLinks c 0 cs) → chained prev next ws first c ≡ Long n
         → ((x : ℕ) → 0 < count x (listOf (nextOf next ws) n c) → freeOf ws c x ≡ true) → ListRight (nextOf next ws) (prevOf prev ws) cs c
     list-right n q e g =
-        let p = ring prev next ws c n e in
+        let p = ring prev next ws first c n e in
         let o = p .order in
-        let z : count c o ≡ 0 = ⊎-elim (λ k. k) (λ k. absurd (omega (arith, inside-is ws c (p .good c k) .0))) (none-or-some (count c o)) in
+        let z : count c o ≡ 0 = ⊎-elim (λ k. k) (λ k. absurd (omega (arith, inside-is ws first c (p .good c k) .0))) (none-or-some (count c o)) in
         let once = chain-once (nextOf next ws) (prevOf prev ws) c o c (p .chain) z in
         let free : (x : ℕ) → 0 < count x o → 0 < count x (freeLinks c 0 cs) =
-        (λ x k. free-link x (g x (subst (λ (l : List ℕ). 0 < count x l) (sym (ring-order prev next ws c n e)) k))) in
+        (λ x k. free-link x (g x (subst (λ (l : List ℕ). 0 < count x l) (sym (ring-order prev next ws first c n e)) k))) in
         let under : (x : ℕ) → count x o ≤ count x (freeLinks c 0 cs) =
         (λ x. ⊎-elim (λ k. omega (arith, k)) (λ k. omega (arith, once x, free x k)) (none-or-some (count x o))) in
         record { order = o; chain = p .chain; exact = all-equal o (freeLinks c 0 cs) under (omega (arith, p .long)) }
@@ -114,14 +125,14 @@ module _ (ws : List ℕ) (cs : List Chunk) (t : Tiles ws 0 true cs) (c : ℕ) wh
       order-free x k = link-free x (omega (arith, k, r .exact x))
 
       -- AND BACK: a list that is right is a ring of that length
-      pub right-ring : chained prev next ws c ≡ Long (length (freeLinks c 0 cs))
+      pub right-ring : Opened ws first → chained prev next ws first c ≡ Long (length (freeLinks c 0 cs))
       unfolding chained
-      right-ring =
+      right-ring o =
           let f = links-few cs ws c 0 true t in
-          follow-complete (nextOf next ws) (prevOf prev ws) (insideᵇ ws) c (length ws + 1) (r .order) c 0
-          (λ x k q. absurd (omega (arith, inside-is ws x k .0, q)))
+          follow-complete (nextOf next ws) (prevOf prev ws) (insideᵇ ws first) c (length ws + 1) (r .order) c 0
+          (λ x k q. absurd (omega (arith, inside-is ws first x k .0, q)))
           (r .chain)
-          (λ x k. free-inside ws c x (order-free x k))
+          (λ x k. free-inside ws first c x o (order-free x k))
           (omega (arith, f, as-long))
           ∙ ap Long (omega (arith, as-long))
 

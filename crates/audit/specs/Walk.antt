@@ -2,7 +2,7 @@
 use Prim.Native.Nat.{ℕ, zero, suc, _+_, _-_, _*_, _/_, _%_, _≤_}
 use mathlib.Core.Path.{_≡_}
 use mathlib.Core.List.{List, [], _∷_}
-use mathlib.Core.Bool.{Bool, true, false, not}
+use mathlib.Core.Bool.{Bool, true, not}
 use lib.ListN.{length, getD}
 use lib.Dec.{ltb, leb, eqb}
 use Rattle.words.specs.Choice.{bit}
@@ -91,6 +91,21 @@ lengthSeen (Used n) = n
 -- of the chunk whose header is word w
 unfoldable pub heldAt : List ℕ → ℕ → ℕ
 heldAt ws w = lengthSeen (chunkOf ws w)
+
+-- THE FIRST FREE CHUNK: past a used chunk the search goes on; it ends at a free one, or at the guard
+unfoldable pub pastUsed : (ℕ → ℕ) → ℕ → Seen → ℕ
+pastUsed go at Bad = at
+pastUsed go at (Free n) = at
+pastUsed go at (Used n) = go (at + n / 4)
+
+-- its word, from word `at` on, in at most so many turns
+unfoldable pub firstFrom : ℕ → List ℕ → ℕ → ℕ
+firstFrom zero ws at = at
+firstFrom (suc f) ws at = pastUsed (firstFrom f ws) at (seenAt ws at 1)
+
+-- its word; the guard's where no chunk is free
+unfoldable pub firstFree : List ℕ → ℕ
+firstFree ws = firstFrom (length ws) ws 0
 
 -- THE CACHED CHUNK by its link l. Its word among n, which is no header's where the link names no chunk
 unfoldable pub cachedWord : ℕ → ℕ → ℕ

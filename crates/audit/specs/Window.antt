@@ -85,11 +85,11 @@ freeOf ws c k = pick (ltb k 6) false (freeSeen c (chunkOf ws (k - 6)))
 abbrev pub AllFit : List Link → List ℕ → List ℕ → List ℕ → ℕ → ℕ → Type 0
 AllFit next ws ms frees from to = (c : ℕ) → c < 6 → allᵇ (nextOf next ws) (fitsᵇ ws ms c from to) (getD frees c 0) c ≡ true
 
--- the words are tiled, and the listed links lie before the guard
-pub record Ringed (next : List Link) (ws frees : List ℕ) : Type 0 where
-  pub layout : List Chunk
-  pub tiles : Tiles ws 0 true layout
+-- at word `first` a walk can stand, and the listed links lie from there on and before the guard
+pub record Ringed (next : List Link) (ws : List ℕ) (first : ℕ) (frees : List ℕ) : Type 0 where
+  pub standing : Standing ws first 1
   pub inside : (c : ℕ) → c < 6 → AllInside next ws (getD frees c 0) c
+  pub onward : (c : ℕ) → c < 6 → (x : ℕ) → 0 < count x (listOf (nextOf next ws) (getD frees c 0) c) → first ≤ x - 6
 
 -- the listed links name free chunks, each of its list's class
 abbrev pub Listed : List Link → List ℕ → List ℕ → Type 0

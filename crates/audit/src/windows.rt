@@ -145,12 +145,12 @@ fn window_right(
     true
 }
 
-// Whether the lists, rings of the right lengths, hold free chunks of their classes only.
-pub(crate) fn lists_right(next: [Link; 6], heap: &[u32], frees: [usize; 6]) -> bool
-    requires { ⌜ Ringed next (now heap) frees ⌝ }
+// Whether the lists, rings of the right lengths, hold free chunks of their classes only. The windows begin at the first free chunk.
+pub(crate) fn lists_right(next: [Link; 6], heap: &[u32], first: usize, frees: [usize; 6]) -> bool
+    requires { ⌜ Ringed next (now heap) first frees ⌝ }
     ensures { λ (r : Bool). ⌜ (r ≡ true ↔ Listed next (now (heap .entry)) frees) ⌝ }
 {
-    let mut at: usize = 0;
+    let mut at: usize = first;
     let mut left: u32 = 1;
     while at + 1 < heap.len() {
         let mut marks = [0u8; 128];

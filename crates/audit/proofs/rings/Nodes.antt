@@ -1,7 +1,7 @@
 -- Links by where they stand: a sentinel's in its array, and both of a chunk in one word.
 --     next-start, prev-start     the links of a sentinel
 --     next-in, prev-in           the links of a chunk
---     inside-is                  what the test of a link says
+--     inside-is, inside-low      what the test of a link says
 use Prim.Native.Nat.{ℕ, _+_, _-_, _/_, _%_, _≤_, _<_}
 use mathlib.Core.Path.{_≡_, sym, ap}
 use mathlib.Core.Logic.{⊎-elim}
@@ -36,11 +36,22 @@ module _ (prev : List Link) (ws : List ℕ) where
   unfolding prevOf
   prev-in k v i e = rw (le-ltb k 6 i) (ap (λ (x : ℕ). x % 65536) e)
 
--- a link that passes the test lies before the guard
-pub inside-is : (ws : List ℕ) (x : ℕ) → insideᵇ ws x ≡ true → Inside ws x
+-- a link that passes the test
+tests-passed : (ws : List ℕ) (first x : ℕ) → insideᵇ ws first x ≡ true → Inside ws x × (first ≤ x - 6)
 unfolding insideᵇ
-inside-is ws x e =
+tests-passed ws first x e =
     ⊎-elim
     (λ u. absurd (false≢true (u .1)))
-    (λ v. (ltb-false x 6 (v .0), ltb-true _ _ (v .1)))
+    (λ v. ⊎-elim
+    (λ u. absurd (false≢true (u .1)))
+    (λ w. ((ltb-false x 6 (v .0), ltb-true _ _ (w .1)), ltb-false _ _ (w .0)))
+    (pick-is _ _ _ _ (v .1)))
     (pick-is _ _ _ _ e)
+
+-- it lies before the guard
+pub inside-is : (ws : List ℕ) (first x : ℕ) → insideᵇ ws first x ≡ true → Inside ws x
+inside-is ws first x e = tests-passed ws first x e .0
+
+-- and not before the first free chunk
+pub inside-low : (ws : List ℕ) (first x : ℕ) → insideᵇ ws first x ≡ true → first ≤ x - 6
+inside-low ws first x e = tests-passed ws first x e .1

@@ -126,8 +126,12 @@ module _ (ws : List ℕ) (w : ℕ) (y : Seen) (n : Bad ≡ y → ⊥) where
   unfolding chunkOf
   found-seen e = from-seen (suc (length ws)) 0 1 e
 
--- and in the layout
-guard-bad : (ws : List ℕ) (at left : ℕ) → getD ws at 0 < 16 → seenAt ws at left ≡ Bad
+-- the guard is less than any header
+pub guard-low : (ws : List ℕ) (at left : ℕ) → left ≤ 1 → eqb (getD ws at 0) (2 + left) ≡ true → getD ws at 0 < 16
+guard-low ws at left i e = omega (arith, i, eqb-true (getD ws at 0) (2 + left) e)
+
+-- so nothing is seen there
+pub guard-bad : (ws : List ℕ) (at left : ℕ) → getD ws at 0 < 16 → seenAt ws at left ≡ Bad
 unfolding seenAt pick
 guard-bad ws at left h =
     ⊎-elim
@@ -219,10 +223,10 @@ module _ (ws : List ℕ) (w at left held : ℕ) (g : Holding ws w at left held) 
       }
 
   -- at the guard the walk is past the word, or nothing is there
-  pub holding-guard : getD ws at 0 < 16 → held ≡ heldAt ws w
+  pub holding-guard : left ≤ 1 → eqb (getD ws at 0) (2 + left) ≡ true → held ≡ heldAt ws w
   unfolding lengthSeen
-  holding-guard h =
-      let e : seenAt ws at left ≡ Bad = guard-bad ws at left h in
+  holding-guard s h =
+      let e : seenAt ws at left ≡ Bad = guard-bad ws at left (guard-low ws at left s h) in
       ⊎-elim
       (λ i. g .ahead i .1
       ∙ sym (held-is ws w Bad

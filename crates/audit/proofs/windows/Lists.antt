@@ -25,7 +25,7 @@ use Rattle.audit.proofs.Counting.{same-or, same-bit, le-or-lt}
 use Rattle.audit.proofs.tiling.Headers.{pick-some, free-not-bad, free-bytes}
 use Rattle.audit.proofs.tiling.Finds.{found-seen}
 use Rattle.audit.proofs.rings.Nodes.{next-in}
-use Rattle.audit.proofs.windows.Steps.{standing-starts, standing-here}
+use Rattle.audit.proofs.windows.Steps.{standing-here}
 
 -- A LINK AGAINST A WINDOW. The length of a chunk that was found is its header's
 free-header : (ws : List ℕ) (w n : ℕ) → chunkOf ws w ≡ Free n → bytes (getD ws w 0) ≡ n
@@ -180,12 +180,10 @@ pub record Showing (next : List Link) (ws frees : List ℕ) (at left : ℕ) : Ty
   pub here : at < length ws
   pub good : (c : ℕ) → c < 6 → (x : ℕ) → 0 < count x (listOf (nextOf next ws) (getD frees c 0) c) → x - 6 < at → freeOf ws c x ≡ true
 
-module _ (next : List Link) (ws frees : List ℕ) (g : Ringed next ws frees) where
-  -- at the start
-  pub showing-starts : Showing next ws frees 0 1
-  showing-starts =
-      let z = standing-starts ws (g .layout) (g .tiles) in
-      record { standing = z; here = standing-here ws 0 1 z; good = (λ c i x k j. absurd (omega (arith, j))) }
+module _ (next : List Link) (ws : List ℕ) (first : ℕ) (frees : List ℕ) (g : Ringed next ws first frees) where
+  -- at the first free chunk, before which no link lies
+  pub showing-starts : Showing next ws frees first 1
+  showing-starts = record { standing = g .standing; here = standing-here ws first 1 (g .standing); good = (λ c i x k j. absurd (omega (arith, j, g .onward c i x k))) }
 
   module _ (ms : List ℕ) (at : ℕ) (r : Stand) (w : Window ws ms at r) where
     -- a window on
