@@ -7,6 +7,8 @@ use lib.ListN.{length, getD, set}
 use lib.Dec.{ltb, leb, eqb}
 use Rattle.words.specs.declared.names.Link.{Link}
 use Rattle.words.specs.Choice.{bit}
+use Rattle.words.specs.Links.{narrow, linkAt}
+use Rattle.words.specs.Links as links
 use Rattle.words.specs.Sizes.{classOf}
 use Rattle.audit.specs.declared.tiling.Seen.{Seen}
 use Rattle.audit.specs.declared.tiling.Seen.the-variants.{Bad, Free, Used}
@@ -66,10 +68,10 @@ fitsᵇ ws ms c from to k =
     (pick (leb to (k - 6)) true
     (pick (markedᵇ ms (k - 6 - from)) (eqb (classOf (bytes (getD ws (k - 6) 0))) c) false)))
 
--- whether each of the first n links after one passes
-unfoldable pub allᵇ : (ℕ → ℕ) → (ℕ → Bool) → ℕ → ℕ → Bool
-allᵇ next ok zero from = true
-allᵇ next ok (suc n) from = pick (ok (next from)) (allᵇ next ok n (next from)) false
+-- whether link k and the n - 1 that follow it in the words all pass
+unfoldable pub allᵇ : List ℕ → (ℕ → Bool) → ℕ → ℕ → Bool
+allᵇ ws ok zero k = true
+allᵇ ws ok (suc n) k = pick (ok k) (allᵇ ws ok n (linkAt narrow links.next ws (k - 6))) false
 
 -- link k names a free chunk of class c
 unfoldable pub freeSeen : ℕ → Seen → Bool
@@ -83,7 +85,7 @@ freeOf ws c k = pick (ltb k 6) false (freeSeen c (chunkOf ws (k - 6)))
 
 -- the first links of all six lists, as many as `frees` says, fit the window
 abbrev pub AllFit : List Link → List ℕ → List ℕ → List ℕ → ℕ → ℕ → Type 0
-AllFit next ws ms frees from to = (c : ℕ) → c < 6 → allᵇ (nextOf next ws) (fitsᵇ ws ms c from to) (getD frees c 0) c ≡ true
+AllFit next ws ms frees from to = (c : ℕ) → c < 6 → allᵇ ws (fitsᵇ ws ms c from to) (getD frees c 0) (getD next c (record { 0 = 0 }) .0) ≡ true
 
 -- the words are tiled, and the listed links lie before the guard
 pub record Ringed (next : List Link) (ws frees : List ℕ) : Type 0 where

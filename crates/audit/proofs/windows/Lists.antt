@@ -1,10 +1,10 @@
 -- Links against a window, and the lists, window by window.
 --     fits-..       the test's three ways, by the wrapping differences that the code takes
 --     fits-in       in the window the test is whether the link names a free chunk of the class
---     Left, left-.. the links of a list that are left to test
+--     all-..        the first links of a list, each passing a test
 --     Showing       every listed link below `at` names a free chunk of its class
 use Prim.Native.Nat.{ℕ, zero, suc, _+_, _-_, _/_, _%_, _^_, _≤_, _<_}
-use mathlib.Core.Path.{_≡_, refl, sym, ap, _∙_, subst₂}
+use mathlib.Core.Path.{_≡_, refl, sym, ap, _∙_}
 use mathlib.Core.Logic.{⊎-elim}
 use mathlib.Core.List.{List}
 use mathlib.Core.Bool.{Bool, true, false, false≢true}
@@ -19,12 +19,12 @@ use Rattle.audit.specs.declared.tiling.Seen.the-variants.{Bad, Free, Use
 use Rattle.audit.specs.declared.windows.Stand.{Stand}
 use Rattle.audit.specs.Layout.{pick}
 use Rattle.audit.specs.Walk.{bytes, chunkOf}
-use Rattle.audit.specs.Rings.{count, nextOf, listOf, Inside, AllInside}
+use Rattle.audit.specs.Rings.{count, nextOf, listOf, insideᵇ, AllInside}
 use Rattle.audit.specs.Window.{markedᵇ, isFree, Standing, Window, fitsᵇ, allᵇ, freeSeen, freeOf, AllFit, Ringed, Listed}
 use Rattle.audit.proofs.Counting.{same-or, same-bit, le-or-lt}
 use Rattle.audit.proofs.tiling.Headers.{pick-some, free-not-bad, free-bytes}
 use Rattle.audit.proofs.tiling.Finds.{found-seen}
-use Rattle.audit.proofs.rings.Nodes.{next-in}
+use Rattle.audit.proofs.rings.Nodes.{next-start, next-in}
 use Rattle.audit.proofs.windows.Steps.{standing-starts, standing-here}
 
 -- A LINK AGAINST A WINDOW. The length of a chunk that was found is its header's
@@ -103,76 +103,68 @@ module _ (ws ms : List ℕ) (c from to k : ℕ) where
       go (Free s) q = rw (e ∙ ap isFree q) (ap (λ (x : ℕ). eqb (classOf x) c) (free-header ws (k - 6) s q) ∙ sym (free-of-at ws c k (Free s) i q))
       go (Used s) q = rw (e ∙ ap isFree q) (sym (free-of-at ws c k (Used s) i q))
 
--- THE FIRST n LINKS, each passing a test
-module _ (next : ℕ → ℕ) (ok : ℕ → Bool) where
-  -- if all pass, each does
-  pub all-sound : (n from : ℕ) → allᵇ next ok n from ≡ true → (x : ℕ) → 0 < count x (listOf next n from) → ok x ≡ true
-  unfolding allᵇ listOf
-  all-sound zero from e x h = absurd (omega arith)
-  all-sound (suc n) from e x h =
-      let g = pick-some _ _ _ _ e false≢true in
-      ⊎-elim (λ s. ap ok (s .0) ∙ g .0) (λ s. all-sound n (next from) (g .1) x (omega (arith, h, s .1))) (same-or x (next from))
-
-  -- and back
-  pub all-complete : (n from : ℕ) → ((x : ℕ) → 0 < count x (listOf next n from) → ok x ≡ true) → allᵇ next ok n from ≡ true
-  unfolding allᵇ listOf pick
-  all-complete zero from g = refl
-  all-complete (suc n) from g =
-      rw (g (next from) (omega (arith, same-bit (next from) (next from) refl)))
-      (all-complete n (next from) (λ x h. g x (omega (arith, h))))
-
-  -- the turns of the loop
-  pub all-end : (n k : ℕ) → n ≤ 0 → allᵇ next ok n k ≡ true
+-- THE FIRST n LINKS of a list, each passing a test
+module _ (ws : List ℕ) (ok : ℕ → Bool) where
+  -- none is left
+  pub all-end : (n k : ℕ) → n ≤ 0 → allᵇ ws ok n k ≡ true
   unfolding allᵇ
   all-end zero k i = refl
   all-end (suc n) k i = absurd (omega arith)
 
-  -- the next link does not pass
-  pub all-stop : (n k j : ℕ) → 0 < n → j ≡ next k → ok j ≡ false → allᵇ next ok n k ≡ false
-  unfolding allᵇ pick
-  all-stop zero k j i e b = absurd (omega arith)
-  all-stop (suc n) k j i e b = rw (sym e, b) refl
+  -- one is left, and those after it
+  all-turn : (n k : ℕ) → 0 < n → allᵇ ws ok n k ≡ pick (ok k) (allᵇ ws ok (n - 1) (getD ws (k - 6 + 1) 0 / 65536)) false
+  unfolding allᵇ
+  all-turn zero k i = absurd (omega arith)
+  all-turn (suc n) k i = let d : suc n - 1 ≡ n = omega arith in rw d refl
 
-  -- the next link passes
-  all-on : (n k j : ℕ) → 0 < n → j ≡ next k → ok j ≡ true → allᵇ next ok n k ≡ allᵇ next ok (n - 1) j
-  unfolding allᵇ pick
-  all-on zero k j i e b = absurd (omega arith)
-  all-on (suc n) k j i e b = let d : n ≡ suc n - 1 = omega arith in rw (sym e, b) (ap (λ (m : ℕ). allᵇ next ok m j) d)
+  module _ (n k : ℕ) (i : 0 < n) where
+    -- it does not pass
+    pub all-stop : ok k ≡ false → allᵇ ws ok n k ≡ false
+    unfolding pick
+    all-stop b = all-turn n k i ∙ rw b refl
 
--- a list whose links lie before the guard: its first link, and the rest
-inside-tail : (next : List Link) (ws : List ℕ) (n b k : ℕ) → 0 < n → k ≡ nextOf next ws b → AllInside next ws n b → Inside ws k × AllInside next ws (n - 1) k
+    -- it passes
+    pub all-on : ok k ≡ true → (v : ℕ) → v ≡ getD ws (k - 6 + 1) 0 → allᵇ ws ok n k ≡ allᵇ ws ok (n - 1) (v / 65536)
+    unfolding pick
+    all-on b v e = all-turn n k i ∙ rw (b, e) refl
+
+    -- where all pass, it does and those after it do
+    pub all-parts : allᵇ ws ok n k ≡ true → (ok k ≡ true) × (allᵇ ws ok (n - 1) (getD ws (k - 6 + 1) 0 / 65536) ≡ true)
+    all-parts e = pick-some _ _ _ _ (sym (all-turn n k i) ∙ e) false≢true
+
+-- a list whose links lie before the guard: the second one stands in the first one's chunk
+inside-next : (next : List Link) (ws : List ℕ) (n b k : ℕ) → AllInside next ws (suc n) b → k ≡ nextOf next ws b
+    → getD ws (k - 6 + 1) 0 / 65536 ≡ nextOf next ws (nextOf next ws b)
 unfolding listOf
-inside-tail next ws zero b k i e h = absurd (omega arith)
-inside-tail next ws (suc n) b k i e h = (
-  h k (omega (arith, same-bit k (nextOf next ws b) e)),
-  λ x j.
-      let d : suc n - 1 ≡ n = omega arith in
-      let p : 0 < count x (listOf (nextOf next ws) n (nextOf next ws b)) = subst₂ (λ (m l : ℕ). 0 < count x (listOf (nextOf next ws) m l)) d e j in
-      h x (omega (arith, p)),
-)
+inside-next next ws n b k h q =
+    next-in next ws (nextOf next ws b) _ (h _ (omega (arith, same-bit (nextOf next ws b) (nextOf next ws b) refl)) .0) (ap (λ (j : ℕ). getD ws (j - 6 + 1) 0) q)
 
--- WHAT IS LEFT OF A LIST of n links: k is the next one, and the test of what is left is the test of all
-pub record Left (next : List Link) (ws ms : List ℕ) (c from to n k left : ℕ) : Type 0 where
-  pub node : ℕ
-  pub after : k ≡ nextOf next ws node
-  pub same : allᵇ (nextOf next ws) (fitsᵇ ws ms c from to) n c ≡ allᵇ (nextOf next ws) (fitsᵇ ws ms c from to) left node
-  pub inside : AllInside next ws left node
+module _ (next : List Link) (ws : List ℕ) where
+  -- if all its links pass a test, each does
+  pub all-sound : (ok : ℕ → Bool) (n b k : ℕ) → AllInside next ws n b → k ≡ nextOf next ws b → allᵇ ws ok n k ≡ true
+      → (x : ℕ) → 0 < count x (listOf (nextOf next ws) n b) → ok x ≡ true
+  unfolding allᵇ listOf
+  all-sound ok zero b k h q e x i = absurd (omega arith)
+  all-sound ok (suc n) b k h q e x i =
+      let g = pick-some _ _ _ _ e false≢true in
+      ⊎-elim
+      (λ s. ap ok (s .0 ∙ sym q) ∙ g .0)
+      (λ s. all-sound ok n (nextOf next ws b) _ (λ y j. h y (omega (arith, j))) (inside-next next ws n b k h q) (g .1) x (omega (arith, i, s .1)))
+      (same-or x (nextOf next ws b))
 
-module _ (next : List Link) (ws ms : List ℕ) (c from to n k left : ℕ) (g : Left next ws ms c from to n k left) (i : 0 < left) where
-  -- the next link lies before the guard
-  pub left-inside : Inside ws k
-  left-inside = inside-tail next ws left (g .node) k i (g .after) (g .inside) .0
+  -- and back
+  pub all-complete : (ok : ℕ → Bool) (n b k : ℕ) → AllInside next ws n b → k ≡ nextOf next ws b
+      → ((x : ℕ) → 0 < count x (listOf (nextOf next ws) n b) → ok x ≡ true) → allᵇ ws ok n k ≡ true
+  unfolding allᵇ listOf pick
+  all-complete ok zero b k h q g = refl
+  all-complete ok (suc n) b k h q g =
+      rw (ap ok q ∙ g (nextOf next ws b) (omega (arith, same-bit (nextOf next ws b) (nextOf next ws b) refl)))
+      (all-complete ok n (nextOf next ws b) _ (λ y j. h y (omega (arith, j))) (inside-next next ws n b k h q) (λ x j. g x (omega (arith, j))))
 
-  -- and where it passes, what comes after it is left
-  pub left-on : fitsᵇ ws ms c from to k ≡ true → (v : ℕ) → v ≡ getD ws (k - 6 + 1) 0 → Left next ws ms c from to n (v / 65536) (left - 1)
-  left-on o v e =
-      let t = inside-tail next ws left (g .node) k i (g .after) (g .inside) in
-      record {
-        node = k;
-        after = next-in next ws k v (t .0 .0) e;
-        same = g .same ∙ all-on (nextOf next ws) (fitsᵇ ws ms c from to) left (g .node) k i (g .after) o;
-        inside = t .1;
-      }
+  -- they pass the test of lying before the guard
+  pub all-inside : (n b k : ℕ) → AllInside next ws n b → k ≡ nextOf next ws b → allᵇ ws (insideᵇ ws) n k ≡ true
+  unfolding insideᵇ pick
+  all-inside n b k h q = all-complete (insideᵇ ws) n b k h q (λ x i. simp (le-ltb x 6 (h x i .0), lt-ltb (x - 6 + 1) (length ws) (h x i .1)))
 
 -- THE WINDOWS, one after the other: the loop's invariant
 pub record Showing (next : List Link) (ws frees : List ℕ) (at left : ℕ) : Type 0 where
@@ -198,7 +190,7 @@ module _ (next : List Link) (ws frees : List ℕ) (g : Ringed next ws frees) whe
               ⊎-elim
               (λ l.
               sym (fits-in ws ms c at (r .at) x (g .inside c i x k .0) l j (w .right (x - 6) l j))
-              ∙ all-sound (nextOf next ws) (fitsᵇ ws ms c at (r .at)) (getD frees c 0) c (a c i) x k)
+              ∙ all-sound next ws (fitsᵇ ws ms c at (r .at)) (getD frees c 0) c _ (g .inside c i) (next-start next ws c i) (a c i) x k)
               (λ l. s .good c i x k l)
               (le-or-lt at (x - 6)));
         }
@@ -206,7 +198,7 @@ module _ (next : List Link) (ws frees : List ℕ) (g : Ringed next ws frees) whe
     -- where the lists hold free chunks of their classes only, they fit each window
     pub listed-fit : Listed next ws frees → AllFit next ws ms frees at (r .at)
     listed-fit p c i =
-        all-complete (nextOf next ws) (fitsᵇ ws ms c at (r .at)) (getD frees c 0) c
+        all-complete next ws (fitsᵇ ws ms c at (r .at)) (getD frees c 0) c _ (g .inside c i) (next-start next ws c i)
         (λ x k.
         let b = g .inside c i x k .0 in
         ⊎-elim
