@@ -13,7 +13,7 @@ use Rattle.audit.specs.declared.tiling.Seen.the-variants.{Bad, Free, Use
 use Rattle.audit.specs.declared.tiling.Tally.{Tally}
 use Rattle.audit.specs.Layout.{pick, Chunk, free, used}
 
--- the length in a header h whose third bit is clear
+-- the length in a header h
 abbrev pub bytes : ℕ → ℕ
 bytes h = h / 8 * 8
 
@@ -21,15 +21,14 @@ bytes h = h / 8 * 8
 unfoldable pub seenAt : List ℕ → ℕ → ℕ → Seen
 seenAt ws at left =
     pick (ltb at (length ws))
-    (pick (ltb (getD ws at 0 % 8) 4)
     (pick (leb 16 (getD ws at 0))
-    (pick (eqb (getD ws at 0 % 2) left)
     (pick (ltb (bytes (getD ws at 0) / 4) (length ws - at))
-    (pick (leb 2 (getD ws at 0 % 4))
+    (pick (eqb (getD ws at 0 % 8) (2 + left))
     (Used (bytes (getD ws at 0)))
     (pick (not (eqb left 0))
+    (pick (eqb (getD ws at 0 % 8) 1)
     (pick (eqb (getD ws (at + bytes (getD ws at 0) / 4 - 1) 0) (bytes (getD ws at 0)))
-    (Free (bytes (getD ws at 0))) Bad) Bad)) Bad) Bad) Bad) Bad) Bad
+    (Free (bytes (getD ws at 0))) Bad) Bad) Bad)) Bad) Bad) Bad
 
 -- THE WHOLE WALK: broken, or the sum of used lengths, the end of the last used chunk, and how many free chunks are of a class
 pub data Tiled : Type 0 where

@@ -33,21 +33,17 @@ pub(crate) struct Tally {
     pub(crate) frees: [usize; 6],
 }
 
-// The chunk whose header is word `at`.
+// The chunk whose header is word `at`. The low three bits of a used chunk's header are 2 and its left bit; a free one's are 1, for its left
+// neighbour is used.
 fn seen_at(heap: &[u32], at: usize, left: u32) -> Seen
+    requires { ⌜ left < 2 ⌝ }
     ensures { λ r. ⌜ r ≡ seenAt (now (heap .entry)) at left ⌝ }
 {
     if heap.len() <= at {
         return Seen::Bad;
     }
     let h = heap[at];
-    if 4 <= h % 8 {
-        return Seen::Bad;
-    }
     if h < 16 {
-        return Seen::Bad;
-    }
-    if h % 2 != left {
         return Seen::Bad;
     }
     let len = h / 8 * 8;
@@ -55,10 +51,13 @@ fn seen_at(heap: &[u32], at: usize, left: u32) -> Seen
     if heap.len() - at <= span {
         return Seen::Bad;
     }
-    if 2 <= h % 4 {
+    if h % 8 == 2 + left {
         return Seen::Used(len);
     }
     if left == 0 {
+        return Seen::Bad;
+    }
+    if h % 8 != 1 {
         return Seen::Bad;
     }
     if heap[at + span - 1] != len {
@@ -74,7 +73,7 @@ pub(crate) fn known_at(heap: &[u32], at: usize, left: u32) -> Seen
 {
     let h = heap[at];
     let len = h / 8 * 8;
-    if 2 <= h % 4 {
+    if 2 <= h % 8 {
         return Seen::Used(len);
     }
     Seen::Free(len)

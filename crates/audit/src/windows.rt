@@ -8,7 +8,7 @@ ghost use mathlib.Core.Logic.{_↔_};
 ghost use mathlib.Core.Bool.{Bool, true};
 ghost use Prim.Native.Nat.{ℕ, _≤_, _<_, _/_};
 ghost use lib.ListN.{length, getD};
-ghost use Rattle.audit.specs.Rings.{nextOf, AllInside};
+ghost use Rattle.audit.specs.Rings.{insideᵇ, AllInside};
 ghost use Rattle.audit.specs.Window.{markedᵇ, withMark, fitsᵇ, allᵇ, AllFit, Blank, Window, Ringed, Listed};
 use super::rings::links_of;
 use super::tiling::Seen;
@@ -95,9 +95,9 @@ fn fits(heap: &[u32], marks: &[u8], class: u16, from: usize, to: usize, k: Link)
     words::chunk_size_to_list_index(heap[w] / 8 * 8) == class
 }
 
-// Whether the first n links of a class list fit the window.
+// Whether a class list of n links, of which `first` is the first, fits the window.
 fn listed_fit(
-    next: [Link; 6],
+    first: Link,
     heap: &[u32],
     marks: &[u8],
     class: u16,
@@ -105,10 +105,10 @@ fn listed_fit(
     from: usize,
     to: usize,
 ) -> bool
-    requires { ⌜ (from ≤ to) × (to ≤ length (now heap)) × (class < 6) × AllInside next (now heap) n class ⌝ }
-    ensures { λ r. ⌜ r ≡ allᵇ (nextOf next (now (heap .entry))) (fitsᵇ (now (heap .entry)) (now (marks .entry)) class from to) n class ⌝ }
+    requires { ⌜ (from ≤ to) × (to ≤ length (now heap)) × (allᵇ (now heap) (insideᵇ (now heap) 0) n (first .0) ≡ true) ⌝ }
+    ensures { λ r. ⌜ r ≡ allᵇ (now (heap .entry)) (fitsᵇ (now (heap .entry)) (now (marks .entry)) class from to) n (first .0) ⌝ }
 {
-    let mut k = next[class as usize];
+    let mut k = first;
     let mut left: usize = n;
     while 0 < left {
         let good = fits(heap, marks, class, from, to, k);
@@ -136,7 +136,8 @@ fn window_right(
 {
     let mut class: u16 = 0;
     while class < 6 {
-        let good = listed_fit(next, heap, marks, class, frees[class as usize], from, to);
+        let first = next[class as usize];
+        let good = listed_fit(first, heap, marks, class, frees[class as usize], from, to);
         if !good {
             return false;
         }

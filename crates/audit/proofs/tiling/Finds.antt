@@ -1,7 +1,7 @@
 -- Finding a chunk by its word: the turns of a search, that what is found is in the layout, and what a walk of all words holds of it.
 --     Seeking, seek-..      what is left to search from here is the whole search
 --     Holding, holding-..   a walk holds what it found at a word that it has passed
-use Prim.Native.Nat.{ℕ, zero, suc, _+_, _-_, _/_, _%_, _≤_, _<_}
+use Prim.Native.Nat.{ℕ, zero, suc, _+_, _-_, _/_, _≤_, _<_}
 use mathlib.Core.Path.{_≡_, refl, sym, ap, _∙_, subst}
 use mathlib.Core.Logic.{⊎-elim}
 use mathlib.Core.List.{List, [], _∷_}
@@ -136,10 +136,7 @@ unfolding seenAt pick
 guard-bad ws at left h =
     ⊎-elim
     (λ i. simp (le-ltb at (length ws) i))
-    (λ i. ⊎-elim
-    (λ j. simp (lt-ltb at (length ws) i, le-ltb (getD ws at 0 % 8) 4 j))
-    (λ j. simp (lt-ltb at (length ws) i, lt-ltb (getD ws at 0 % 8) 4 j, lt-leb 16 (getD ws at 0) h))
-    (le-or-lt 4 (getD ws at 0 % 8)))
+    (λ i. simp (lt-ltb at (length ws) i, lt-leb 16 (getD ws at 0) h))
     (le-or-lt (length ws) at)
 
 -- a choice of one thing
