@@ -33,11 +33,11 @@ rows-few s h =
     let fills = h .1 .fills in
     omega (arith, chunks-few (m .cs) (h .1 .legal))
 
-module _ (s : State) (room : List ℕ) where
-  -- the test tells a damaged heap
-  not-sound : soundAt s ≡ false → Sound base 65529 1 s → ⊥
-  not-sound e h = let z : _≡_ {A = ℕ} 0 1 = ap bit (sym e ∙ true-sound ours s h) in omega arith
+-- where the test says no the heap is damaged
+not-sound : (s : State) → soundAt s ≡ false → Sound base 65529 1 s → ⊥
+not-sound s e h = let z : _≡_ {A = ℕ} 0 1 = ap bit (sym e ∙ true-sound ours s h) in omega arith
 
+module _ (s : State) (room : List ℕ) where
   -- the number that comes with the answer is the rows', or 0
   written-few : written s room .value ≤ 16382
   written-few = go (soundAt s) refl (decLe (19 * length (rowsOf s)) (length room))
@@ -51,7 +51,7 @@ module _ (s : State) (room : List ℕ) where
           let a = h .1 .accepted .1 in
           omega (arith, rows-few s h, is (what-is-written s room .2 h enough))
       go true e (no short) = omega (arith, is (what-is-written s room .1 (sound-true ours s e) (omega arith)))
-      go false e d = omega (arith, is (what-is-written s room .0 (not-sound e)))
+      go false e d = omega (arith, is (what-is-written s room .0 (not-sound s e)))
 
   -- ROOM THAT SUFFICES
   pub room-suffices : 19 * ((length (s .words) - 1) / 4) ≤ length room → written s room .number ≡ 6 → ⊥
@@ -62,7 +62,7 @@ module _ (s : State) (room : List ℕ) where
 
       go : (b : Bool) → soundAt s ≡ b → ⊥
       go true e = let h = sound-true ours s e in omega (arith, is (what-is-written s room .2 h (omega (arith, rows-few s h))))
-      go false e = omega (arith, is (what-is-written s room .0 (not-sound e)))
+      go false e = omega (arith, is (what-is-written s room .0 (not-sound s e)))
 
 -- AN ANSWER'S NUMBER FITS
 pub answer-counted : (a : Answer) (s : State) (room vs : List ℕ) → told a vs ≡ written s room → Counted a
