@@ -72,6 +72,14 @@ struct figures kernel_figures(void)
     };
 }
 
+_Static_assert(MAP_LINE == LISCHEMUR_MAP_LINE, "the bytes of a map's line");
+
+struct answer kernel_map(char *room, uint32_t bytes)
+{
+    CALLED(lischemur_write_map(record, heap, lent, room, bytes))
+    return (struct answer){reply.number, reply.value, reply.compared};
+}
+
 uint32_t *kernel_word(uint32_t offset)
 {
     return lischemur_pointer(heap, offset);

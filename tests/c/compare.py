@@ -6,29 +6,18 @@ TRACE is the built trace program. After every request the answer, the record, ea
 many lines were compared; the first difference is shown and ends the run with status 1.
 """
 
-import importlib.util
 import random
 import subprocess
 import sys
 from pathlib import Path
 
 ROOT = Path(__file__).resolve().parents[2]
-sys.path.insert(0, str(ROOT / "oracle"))
+sys.path[:0] = [str(ROOT / "oracle"), str(ROOT / "tests" / "map")]
 import histories
 import model
+from compare import map_of  # the map of the model's heap: tests/map/compare.py
 
 FIELDS = ("words", "in_use", "committed", "peak", "high", "cached")
-
-
-def map_compared():
-    """The comparison of the map's programs as a module: it has the map of the model's heap."""
-    spec = importlib.util.spec_from_file_location("map_compared", ROOT / "tests/map/compare.py")
-    module = importlib.util.module_from_spec(spec)
-    spec.loader.exec_module(module)
-    return module
-
-
-map_of = map_compared().map_of
 
 
 def map_shown(heap):
