@@ -15,11 +15,12 @@
  *         lischemur_take_back(&record, memory.heap, 1023, r.value);
  *     }
  *
- * Every call accepts any record, any words and any number: what is damaged or makes no sense is refused by number, and a
+ * Every call accepts any record, words, room and number: what is damaged or makes no sense is refused by number, and a
  * refusal changes nothing. That is proved. What a caller owes, because no proof can see it:
  *   - `heap` is not null, not even for 0 words, is aligned for uint32_t, and is followed by `heap_words` words;
  *   - `room` is not null, not even for 0 bytes, and is followed by `room_bytes` bytes;
- *   - record, words and room do not overlap, and nothing else reads or writes them during a call (mask interrupts, or hold a lock);
+ *   - record, words and room do not overlap, and nothing else reads or writes them during a call (mask interrupts, or hold
+ *     a lock);
  *   - `fresh` holds true or false, as a bool does.
  *
  * A slice of Rattle is a pointer and a 64-bit count in C, on every processor. `rt staticlib door` builds the library for
@@ -123,10 +124,10 @@ lischemur_reply lischemur_take_back(lischemur_record *record, uint32_t *heap, ui
 uint32_t lischemur_audit(lischemur_record record, const uint32_t *heap, uint64_t heap_words);
 
 /*
- * Writes the heap's map at the start of the room: a line for each chunk, left to right, as many as the reply's value says. A line has two
- * digits of kind (10 free, 11 live, 12 cached), eight of the header's offset and eight of the chunk's length in bytes, hexadecimal in upper
- * case, and a line feed; no zero byte ends the map. Replies 5, or 6 if the room is too short, tested in that order. The room past the lines
- * keeps its bytes, and after a 5 or a 6 all of it does.
+ * Writes the heap's map at the start of the room: a line for each chunk, left to right, as many as the reply's value says.
+ * A line has two digits of kind (10 free, 11 live, 12 cached), eight of the header's offset and eight of the chunk's length,
+ * hexadecimal in upper case, and a line feed; no zero byte ends the map. Replies 5, or 6 if the room is too short, tested in
+ * that order. The room past the lines keeps its bytes, and after a 5 or a 6 all of it does.
  */
 lischemur_reply lischemur_write_map(
     lischemur_record record, const uint32_t *heap, uint64_t heap_words, char *room, uint64_t room_bytes);

@@ -1,7 +1,7 @@
 /* The proved heap behind the kernel's calls: one record, one run of words, and the door of include/lischemur.h.
  *
- * With MEASURE_STACK each call is made on a painted stack; without, it is the bare call. With CALLS_ONLY the figures and the map are left
- * out, so that a library that lacks one of their functions can be counted too. */
+ * With MEASURE_STACK each call is made on a painted stack; without, it is the bare call. With CALLS_ONLY the figures and the
+ * map are left out, so that a library that lacks one of their functions can be counted too. */
 #include "kernel.h"
 #include "board.h"
 #include <lischemur.h>

@@ -3,9 +3,10 @@
  *
  *     trace [--words N] [--fill SEED] [--marks STACKLETS] < lines
  *
- * A frame gets its answer line and then the whole state: the record and all words as they are, no link named, and the map, whose lines
- * end in commas. The options mean what docs/ORACLE.md says of the harness's. A line that begins with ! does damage: `!NAME INDEX VALUE` writes a word or a
- * field, as `!memory 3 16`, `!prev 0 7`, `!peak 0 80`, or lends another count of words, `!lent 0 35`; it gets no line.
+ * A frame gets its answer line and then the whole state: the record and all words as they are, no link named, and the map,
+ * whose lines end in commas. The options mean what docs/ORACLE.md says of the harness's. A line that begins with ! does
+ * damage: `!NAME INDEX VALUE` writes a word or a field, as `!memory 3 16`, `!prev 0 7`, `!peak 0 80`, or lends another count
+ * of words, `!lent 0 35`; it gets no line.
  */
 #include "lischemur.h"
 
