@@ -4,22 +4,22 @@
 --     written-done                               answer 0: the state is sound, and its lines stand in the room
 use mathlib.Core.Path.{_≡_, refl, sym, ap, _∙_}
 use mathlib.Core.Bool.{Bool, true, false}
-use mathlib.Core.List.{List, _++_}
+use mathlib.Core.List.{List}
 use Prim.Native.Nat.{ℕ, _≤_, _<_}
 use native.Mathlib.Omega.{arith}
 use lib.Dec.{leb}
-use lib.ListN.{length, drop}
+use lib.ListN.{length}
 use borrow.Author.Tests.{le-leb, lt-leb, leb-true}
 use Rattle.words.specs.Choice.{pick}
 use Rattle.rules.specs.Rules.{Outcome, says}
 use Rattle.rules.specs.Making.{State}
 use Rattle.heap.specs.Answer.{soundAt}
 use Rattle.map.specs.Rows.{linesOf}
-use Rattle.map.specs.Calls.{laid, rowsOf, written}
+use Rattle.map.specs.Calls.{over, laid, rowsOf, written}
 
 module _ (n : ℕ) (xs room : List ℕ) where
   -- room enough
-  pub laid-fits : length xs ≤ length room → laid n xs room ≡ says 0 n 0 (xs ++ drop (length xs) room)
+  pub laid-fits : length xs ≤ length room → laid n xs room ≡ says 0 n 0 (over xs room)
   unfolding laid
   laid-fits h = rw (le-leb (length xs) (length room) h)
 
@@ -33,8 +33,7 @@ module _ (n : ℕ) (xs room : List ℕ) where
   unfolding laid
   laid-zero = go (leb (length xs) (length room)) refl
     where
-      go : (t : Bool) → leb (length xs) (length room) ≡ t
-          → (pick t (says 0 n 0 (xs ++ drop (length xs) room)) (says 6 0 0 room)) .number ≡ 0 → length xs ≤ length room
+      go : (t : Bool) → leb (length xs) (length room) ≡ t → (pick t (says 0 n 0 (over xs room)) (says 6 0 0 room)) .number ≡ 0 → length xs ≤ length room
       go true e z = leb-true (length xs) (length room) e
       go false e z = absurd (let k : _≡_ {A = ℕ} 6 0 = z in omega arith)
 
@@ -49,11 +48,10 @@ module _ (s : State) (room : List ℕ) where
 
   -- answer 0: the state is sound, and its lines stand in the room
   pub written-done : written s room .number ≡ 0
-      → (soundAt s ≡ true) × (written s room ≡ says 0 (length (rowsOf s)) 0 (linesOf (rowsOf s) ++ drop (length (linesOf (rowsOf s))) room))
+      → (soundAt s ≡ true) × (written s room ≡ says 0 (length (rowsOf s)) 0 (over (linesOf (rowsOf s)) room))
   written-done z = go (soundAt s) refl
     where
-      go : (t : Bool) → soundAt s ≡ t
-          → (soundAt s ≡ true) × (written s room ≡ says 0 (length (rowsOf s)) 0 (linesOf (rowsOf s) ++ drop (length (linesOf (rowsOf s))) room))
+      go : (t : Bool) → soundAt s ≡ t → (soundAt s ≡ true) × (written s room ≡ says 0 (length (rowsOf s)) 0 (over (linesOf (rowsOf s)) room))
       go true e =
           let w = written-sound e in
           let f = laid-zero (length (rowsOf s)) (linesOf (rowsOf s)) room (ap (λ (o : Outcome (List ℕ)). o .number) (sym w) ∙ z) in

@@ -8,7 +8,8 @@ use borrow.Author.Needs.{needs}
 use borrow.Author.Tests.{not-true, not-false}
 use Rattle.map.specs.Reading.{start, readFrom}
 use Rattle.map.specs.Steps.{counted}
-use Rattle.map.proofs.Reader.OneLine.{row-inside, follows-room}
+use Rattle.map.proofs.RowTests.{fits-true}
+use Rattle.map.proofs.RowLaws.{row-inside}
 use Rattle.map.proofs.Reader.AllLines.{tried, tried-start, tried-bad, tried-stuck, tried-on, tried-end}
 use Rattle.map.proofs.read.check_lines.Statement.{statement}
 use Rattle.map.proofs.read.check_lines.Tie as tie
@@ -60,8 +61,8 @@ returns-2 c =
 
 place-after-requires : tie.Need-place-after-requires Inv-loop μ-loop
 place-after-requires c κs =
-    let room = follows-room _ _ _ _ (sym (c .before .follows .ensures) ∙ not-false _ (c .if1 .left)) in
-    omega arith
+    let f = fits-true _ _ _ _ (sym (c .before .follows .ensures) ∙ not-false _ (c .if1 .left)) in
+    omega (arith, f .room, f .stands .within)
 
 add-i : tie.Need-add-i Inv-loop μ-loop
 add-i c =

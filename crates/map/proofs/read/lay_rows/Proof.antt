@@ -5,8 +5,9 @@ use Prim.Native.Nat.{_-_, _≤_}
 use native.Mathlib.Omega.{arith}
 use lib.ListN.{length, length-set}
 use borrow.Author.Needs.{needs}
-use Rattle.map.specs.Steps.{wordsIn, over}
-use Rattle.map.proofs.Reader.OneLine.{row-inside}
+use Rattle.map.specs.Steps.{wordsIn}
+use Rattle.map.specs.Calls.{over}
+use Rattle.map.proofs.RowLaws.{row-inside}
 use Rattle.map.proofs.Reader.Laid.{laying, laying-start, laying-bad, laying-on, laying-end}
 use Rattle.map.proofs.read.lay_rows.Statement.{statement}
 use Rattle.map.proofs.read.lay_rows.Tie as tie
