@@ -87,7 +87,8 @@ module _ (most places : ℕ) where
     -- where the first bad line is
     pub bad-read : (bs : List ℕ) (k : ℕ) → FirstBad most places bs k → readAll most places bs ≡ bad k
     bad-read bs k f =
-        ap (readAll most places) (f .is) ∙ stopped (f .good) (f .rest) (begun-goes most places (f .good) (f .legal)) (f .some) (f .stops) ∙ ap bad (sym (f .line))
+        let goes = begun-goes most places (f .good) (f .legal) in
+        ap (readAll most places) (f .is) ∙ stopped (f .good) (f .rest) goes (f .some) (f .stops) ∙ ap bad (sym (f .line))
 
     pub read-first : (bs : List ℕ) (k : ℕ) → readAll most places bs ≡ bad k → FirstBad most places bs k
     unfolding readAll linesOf

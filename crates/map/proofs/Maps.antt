@@ -3,10 +3,10 @@
 --     reads-exactly-the-legal-maps    bytes are read as rows exactly if the rows are a legal map and the bytes are its lines
 --     writing-then-reading            the lines of a legal map are read as that map
 --     reading-then-writing            the lines of the rows that were read are the bytes that were read
---     bad-line-exactly                line k is refused exactly if the lines before it are a legal map, or none, and with no row's line do they go on as one
+--     bad-line-exactly                line k is refused exactly if the lines before it, if any, are a legal map, and with no row's line do they go on as one
 --     read-or-refused                 all bytes are either the lines of a legal map, or have a first bad line
---     beginning-of-a-map              the first rows of a legal map are a legal map, if there are any: no good line is refused too early
 --     lines-tell-rows                 legal maps with the same lines are the same
+--     beginning-of-a-map              the first rows of a legal map, if any, are a legal map: no line after a bad one mends it
 -- For the heap of narrow links, and any number of cache places:
 --     rows-tell-layout                the rows of chunks tell those chunks
 --     map-of-sound-heap               the rows of a sound state are its model's chunks, with their kinds, and a legal map
@@ -38,14 +38,14 @@ use Rattle.heap.specs.Answer.{soundAt}
 use Rattle.map.specs.declared.rows.Row.{Row}
 use Rattle.map.specs.Rows.{linesOf, wordsOf}
 use Rattle.map.specs.Layout.{mapOf, chunksOf, LegalMap}
-use Rattle.map.specs.Reading.{start, Read, rows, bad, readAll}
+use Rattle.map.specs.Reading.{Read, rows, bad, readAll}
 use Rattle.map.specs.Calls.{laid, rowsOf, written, readInto}
 use Rattle.map.specs.Claims.{FirstBad}
 use Rattle.map.proofs.Lines.{length-lines, length-words}
-use Rattle.map.proofs.Room.{over-is, take-over}
-use Rattle.map.proofs.Places.{goes-parts, map-goes, goes-begun}
+use Rattle.map.proofs.Room.{take-over}
+use Rattle.map.proofs.Places.{map-first}
 use Rattle.map.proofs.Exactly.{map-read, read-legal, bad-read, read-first}
-use Rattle.map.proofs.Answers.{laid-fits, laid-short, written-sound, written-damaged, written-done}
+use Rattle.map.proofs.Answers.{laid-past, laid-short, written-sound, written-damaged, written-done}
 use Rattle.map.proofs.Heaps.{chunks-of-map, cached-same, chunks-shown, map-shown}
 
 module _ (most places : ℕ) (digits : 4 * most ≤ 2 ^ 32) where
@@ -62,7 +62,7 @@ module _ (most places : ℕ) (digits : 4 * most ≤ 2 ^ 32) where
   pub reading-then-writing : (bs : List ℕ) (rs : List Row) → readAll most places bs ≡ rows rs → linesOf rs ≡ bs
   reading-then-writing bs rs e = sym (read-legal most places digits bs rs e .1)
 
-  -- line k is refused exactly if the lines before it are a legal map, or none, and with no row's line do they go on as one
+  -- line k is refused exactly if the lines before it, if any, are a legal map, and with no row's line do they go on as one
   pub bad-line-exactly : (bs : List ℕ) (k : ℕ) → Iff (readAll most places bs ≡ bad k) (FirstBad most places bs k)
   bad-line-exactly bs k = (read-first most places digits bs k, bad-read most places digits bs k)
 
@@ -82,9 +82,9 @@ module _ (most places : ℕ) (digits : 4 * most ≤ 2 ^ 32) where
       same : _≡_ {A = Read} (rows rs) (rows ts) → rs ≡ ts
       same q = cc
 
--- the first rows of a legal map are a legal map, if there are any
+-- the first rows of a legal map, if any, are a legal map
 pub beginning-of-a-map : (most places : ℕ) (rs ts : List Row) → LegalMap most places (rs ++ ts) → (rs ≡ []) ⊎ LegalMap most places rs
-beginning-of-a-map most places rs ts m = goes-begun most places rs (goes-parts most places start rs ts (map-goes most places (rs ++ ts) m) .0)
+beginning-of-a-map = map-first
 
 -- the rows of chunks tell those chunks
 pub rows-tell-layout : (ks : List ℕ) (b : ℕ) (cs : List Chunk) → chunksOf (mapOf ks b cs) ≡ cs
@@ -125,10 +125,8 @@ pub what-is-written : (s : State) (room : List ℕ)
     → written s room ≡ says 0 (length (rowsOf s)) 0 (linesOf (rowsOf s) ++ drop (19 * length (rowsOf s)) room))
 what-is-written s room = (
   λ damaged. refused (soundAt s) refl damaged,
-  λ h short. sound h ∙ laid-short (length (rowsOf s)) (linesOf (rowsOf s)) room (omega (arith, length-lines (rowsOf s))),
-  λ h enough.
-      sound h ∙ laid-fits (length (rowsOf s)) (linesOf (rowsOf s)) room (omega (arith, length-lines (rowsOf s)))
-      ∙ ap (λ (x : List ℕ). says 0 (length (rowsOf s)) 0 x) (over-is (linesOf (rowsOf s)) room (19 * length (rowsOf s)) (length-lines (rowsOf s))),
+  λ h short. sound h ∙ laid-short (length (rowsOf s)) (linesOf (rowsOf s)) room (19 * length (rowsOf s)) (length-lines (rowsOf s)) short,
+  λ h enough. sound h ∙ laid-past (length (rowsOf s)) (linesOf (rowsOf s)) room (19 * length (rowsOf s)) (length-lines (rowsOf s)) enough,
 )
   where
     sound : Sound base 65529 1 s → written s room ≡ laid (length (rowsOf s)) (linesOf (rowsOf s)) room
@@ -146,10 +144,8 @@ pub what-is-read : (bs room : List ℕ)
     → readInto (readAll 65529 1 bs) room ≡ says 0 (length rs) 0 (wordsOf rs ++ drop (3 * length rs) room))
 what-is-read bs room = (
   λ k f. ap (λ (q : Read). readInto q room) (bad-read 65529 1 (omega arith) bs k f),
-  λ rs m e short. good rs m e ∙ laid-short (length rs) (wordsOf rs) room (omega (arith, length-words rs)),
-  λ rs m e enough.
-      good rs m e ∙ laid-fits (length rs) (wordsOf rs) room (omega (arith, length-words rs))
-      ∙ ap (λ (x : List ℕ). says 0 (length rs) 0 x) (over-is (wordsOf rs) room (3 * length rs) (length-words rs)),
+  λ rs m e short. good rs m e ∙ laid-short (length rs) (wordsOf rs) room (3 * length rs) (length-words rs) short,
+  λ rs m e enough. good rs m e ∙ laid-past (length rs) (wordsOf rs) room (3 * length rs) (length-words rs) enough,
 )
   where
     good : (rs : List Row) → LegalMap 65529 1 rs → bs ≡ linesOf rs → readInto (readAll 65529 1 bs) room ≡ laid (length rs) (wordsOf rs) room

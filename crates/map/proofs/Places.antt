@@ -3,6 +3,7 @@
 --     goes-on, goes-parts        rows after rows
 --     goes-map, map-goes         rows follow from the start exactly if they are a legal map
 --     goes-begun, begun-goes     or none
+--     map-first                  the first rows of a legal map
 use mathlib.Core.Path.{_≡_, refl, sym, subst, _∙_}
 use mathlib.Core.Logic.{_⊎_, inl, inr}
 use mathlib.Core.Bool.{Bool, true, false, not}
@@ -149,3 +150,7 @@ module _ (most places : ℕ) where
   pub begun-goes : (rs : List Row) → (rs ≡ []) ⊎ LegalMap most places rs → Goes start rs
   begun-goes rs (inl e) = subst (Goes start) (sym e) tt
   begun-goes rs (inr m) = map-goes rs m
+
+  -- the first rows of a legal map, if any, are one
+  pub map-first : (rs ts : List Row) → LegalMap most places (rs ++ ts) → (rs ≡ []) ⊎ LegalMap most places rs
+  map-first rs ts m = goes-begun rs (goes-parts start rs ts (map-goes (rs ++ ts) m) .0)

@@ -141,9 +141,9 @@ line-of-row l r = go (both (eqb (length l) 19) (both (allDigits (take 18 l)) (eq
 -- ---- the line at byte i
 
 -- a row's line has nineteen bytes
-pub row-inside : (bs : List ℕ) (i : ℕ) (r : Row) → rowIn (take 19 (drop i bs)) ≡ Good r → i + 19 ≤ length bs
+pub row-inside : (bs : List ℕ) (i : ℕ) (r : Row) → Good r ≡ rowIn (take 19 (drop i bs)) → i + 19 ≤ length bs
 row-inside bs i r e =
-    let n : length (take 19 (drop i bs)) ≡ 19 = ap length (line-of-row (take 19 (drop i bs)) r e .0) ∙ length-line r in
+    let n : length (take 19 (drop i bs)) ≡ 19 = ap length (line-of-row (take 19 (drop i bs)) r (sym e) .0) ∙ length-line r in
     omega (arith, length-take 19 (drop i bs), length-drop i bs)
 
 -- where fewer are left there is none

@@ -162,10 +162,10 @@ module _ (r : Record) (ws room : List ℕ) (sound : soundAt (seen r ws) ≡ true
 
   -- the room is too short
   pub sound-no-room : length room / 19 < n → says 6 0 0 room ≡ written (seen r ws) room
-  sound-no-room q = sym (written-sound (seen r ws) room sound ∙ laid-short _ _ room (omega (arith, bytes)))
+  sound-no-room q = sym (written-sound (seen r ws) room sound ∙ laid-short _ _ room (19 * n) bytes (omega arith))
 
   -- the lines stand in the room
   pub sound-done : (vs : List ℕ) → n ≤ length room / 19 → vs ≡ over (linesOf (mapOf (cachedOf (r .cached .0)) 0 (chunksIn ws))) room
       → says 0 n 0 vs ≡ written (seen r ws) room
   unfolding rowsOf chunksIn
-  sound-done vs q ev = rw (ev, ← rows) (sym (written-sound (seen r ws) room sound ∙ laid-fits _ _ room (omega (arith, bytes))))
+  sound-done vs q ev = rw (ev, ← rows) (sym (written-sound (seen r ws) room sound ∙ laid-fits _ _ room (19 * n) bytes (omega arith)))

@@ -18,7 +18,7 @@ use Rattle.map.specs.Reading.{Read, rows, bad}
 unfoldable pub over : List ℕ → List ℕ → List ℕ
 over xs room = xs ++ drop (length xs) room
 
--- n, with xs over the room; 6 where it is too short
+-- done with n, and xs over the room; 6 where the room is too short
 unfoldable pub laid : ℕ → List ℕ → List ℕ → Outcome (List ℕ)
 laid n xs room = pick (leb (length xs) (length room)) (says 0 n 0 (over xs room)) (says 6 0 0 room)
 

@@ -1,4 +1,4 @@
--- WHICH LINE IS THE FIRST BAD ONE (W-201), said of legal maps alone. proofs/Maps.antt proves the claims.
+-- WHICH LINE IS THE FIRST BAD ONE (W-201), said by legal maps. proofs/Maps.antt proves the claims.
 use mathlib.Core.Path.{_≡_}
 use mathlib.Core.Logic.{_⊎_}
 use mathlib.Core.List.{List, [], _∷_, _++_}
@@ -8,14 +8,13 @@ use Rattle.map.specs.declared.rows.Row.{Row}
 use Rattle.map.specs.Rows.{lineOf, linesOf}
 use Rattle.map.specs.Layout.{LegalMap}
 
--- LINE k OF THE BYTES IS THE FIRST BAD ONE: the lines before it are a legal map, and with no row's line do the bytes after them go on as one.
--- No line is judged too early: the first rows of a legal map are a legal map themselves (`beginning-of-a-map` in proofs/Maps.antt).
+-- LINE k OF THE BYTES IS THE FIRST BAD ONE: the lines before it, if any, are a legal map, and with no row's line do the bytes after them go on as one.
+-- No line after it could mend it: the first rows of a legal map are a legal map themselves (`beginning-of-a-map`).
 pub record FirstBad (most places : ℕ) (bs : List ℕ) (k : ℕ) : Type 0 where
   pub good : List Row
   pub rest : List ℕ
   pub is : bs ≡ linesOf good ++ rest
   pub line : k ≡ suc (length good)
-  -- the lines before it, if there are any
   pub legal : (good ≡ []) ⊎ LegalMap most places good
   -- there is such a line; without any line it is the first
   pub some : rest ≡ [] → good ≡ []

@@ -94,6 +94,10 @@ laying-on n bs room i k r h l e =
 
 -- ---- a map read
 
+-- the bytes are read as n rows
+abbrev pub ReadAs : List ℕ → ℕ → Type 0
+ReadAs bs n = (rs : List Row) × (length rs ≡ n) × (readAll 65529 1 bs ≡ rows rs)
+
 -- what the count of some lines tells of them
 module _ (bs : List ℕ) (some : length bs ≡ 0 → ⊥) where
   whole : (q : Read) → readFrom 65529 1 (length bs) start 1 bs ≡ q → readAll 65529 1 bs ≡ q
@@ -102,8 +106,7 @@ module _ (bs : List ℕ) (some : length bs ≡ 0 → ⊥) where
   pub told-bad : (k : ℕ) → Wrong k ≡ counted 0 (readFrom 65529 1 (length bs) start 1 bs) → readAll 65529 1 bs ≡ bad k
   told-bad k e = whole (bad k) (counted-bad (readFrom 65529 1 (length bs) start 1 bs) k e)
 
-  pub told-rows : (n : ℕ) → Rows n ≡ counted 0 (readFrom 65529 1 (length bs) start 1 bs)
-      → (rs : List Row) × (length rs ≡ n) × (readAll 65529 1 bs ≡ rows rs)
+  pub told-rows : (n : ℕ) → Rows n ≡ counted 0 (readFrom 65529 1 (length bs) start 1 bs) → ReadAs bs n
   told-rows n e = let t = counted-rows (readFrom 65529 1 (length bs) start 1 bs) n e in (t .0, t .2, whole (rows (t .0)) (t .1))
 
 module _ (bs room : List ℕ) where
@@ -116,10 +119,10 @@ module _ (bs room : List ℕ) where
   pub into-bad : (k : ℕ) → readAll 65529 1 bs ≡ bad k → says 7 k 0 room ≡ readInto (readAll 65529 1 bs) room
   into-bad k e = rw e
 
-  module _ (n : ℕ) (all : (rs : List Row) × (length rs ≡ n) × (readAll 65529 1 bs ≡ rows rs)) where
+  module _ (n : ℕ) (all : ReadAs bs n) where
     -- too short a room
     pub into-short : length room / 3 < n → says 6 0 0 room ≡ readInto (readAll 65529 1 bs) room
-    into-short h = rw (all .2) (sym (laid-short (length (all .0)) (wordsOf (all .0)) room (omega (arith, length-words (all .0)))))
+    into-short h = rw (all .2) (sym (laid-short (length (all .0)) (wordsOf (all .0)) room (3 * length (all .0)) (length-words (all .0)) (omega arith)))
 
     -- room enough
     pub into-done : (out : List ℕ) → n ≤ length room / 3 → out ≡ over (wordsIn n bs) room → says 0 n 0 out ≡ readInto (readAll 65529 1 bs) room
@@ -128,4 +131,5 @@ module _ (bs room : List ℕ) where
         let w : wordsIn n (linesOf (all .0)) ≡ wordsOf (all .0) =
         rw (← (all .1)) (words-lines 65529 1 (omega arith) (all .0) start (map-goes 65529 1 (all .0) (m .0))) in
         let v : wordsIn n bs ≡ wordsOf (all .0) = ap (wordsIn n) (m .1) ∙ w in
-        rw (all .2, o, v, ← (all .1)) (sym (laid-fits (length (all .0)) (wordsOf (all .0)) room (omega (arith, length-words (all .0)))))
+        rw (all .2, o, v, ← (all .1))
+        (sym (laid-fits (length (all .0)) (wordsOf (all .0)) room (3 * length (all .0)) (length-words (all .0)) (omega arith)))

@@ -1,17 +1,12 @@
 -- `map::read::read_map` meets its contract: no line, a bad line, too short a room, and all rows laid.
-use mathlib.Core.Path.{_≡_, sym, _∙_}
-use mathlib.Core.List.{List}
-use lib.ListN.{length}
+use mathlib.Core.Path.{sym, _∙_}
 use borrow.Author.Needs.{needs}
-use Rattle.map.specs.declared.rows.Row.{Row}
-use Rattle.map.specs.Reading.{rows, readAll}
-use Rattle.map.proofs.Reader.Laid.{told-bad, told-rows, into-none, into-bad, into-short, into-done}
+use Rattle.map.proofs.Reader.Laid.{ReadAs, told-bad, told-rows, into-none, into-bad, into-short, into-done}
 use Rattle.map.proofs.read.read_map.Statement.{statement}
 use Rattle.map.proofs.read.read_map.Tie as tie
 
 -- all lines are good, so many
-all : (c : tie.After-checked2) → (rs : List Row) × (length rs ≡ c .checked2 .given .0 .0)
-    × (readAll 65529 1 (c .before .before .before .before .before .before .args .lines .now) ≡ rows rs)
+all : (c : tie.After-checked2) → ReadAs (c .before .before .before .before .before .before .args .lines .now) (c .checked2 .given .0 .0)
 all c =
     let some = c .before .before .before in
     told-rows (some .before .before .before .args .lines .now) (some .if1 .left) _ (sym (c .checked2 .given .1) ∙ c .before .before .check-lines .ensures)

@@ -35,7 +35,8 @@ enum-told c = search needs
 
 returns-3 : tie.Need-returns-3
 returns-3 c =
-    row-none _ (c .before .before .before .before .before .before .if1 .left) 0 2 (omega arith) (omega arith) (sym (c .enum-told .given .1) ∙ c .before .before .read-field .ensures)
+    row-none _ (c .before .before .before .before .before .before .if1 .left) 0 2 (omega arith) (omega arith)
+    (sym (c .enum-told .given .1) ∙ c .before .before .read-field .ensures)
 
 sub-read-field-2 : tie.Need-sub-read-field-2
 sub-read-field-2 c = search needs
