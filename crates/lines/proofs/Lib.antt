@@ -1,0 +1,2 @@
+-- The laws of what the contracts cite.
+pub mod Waiting
