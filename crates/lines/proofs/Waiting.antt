@@ -4,6 +4,7 @@ use mathlib.Core.Bool.{Bool, true, false, cond}
 use mathlib.Core.List.{List, [], _∷_, _++_, append-nil}
 use Prim.Native.Nat.{ℕ, suc, _+_, _-_, _*_, _≤_, _<_}
 use native.Mathlib.Omega.{arith}
+use native.Mathlib.Nat.{sub-zero}
 use native.Mathlib.Numerals.{add-one}
 use lib.Dec.{eqb, leb}
 use lib.ListN.{length, take, drop, set, getD, drop-of-length-le}
@@ -236,13 +237,13 @@ module _ (xs : List ℕ) (w : Buffered) where
 
 -- ---- LINES
 
-module _ (n : ℕ) (ls : List ℕ) (w : Buffered) where
+module _ (n : ℕ) (ls : List ℕ) (o : Output) (bs : List ℕ) where
   -- not so many
-  pub lines-few : length ls < n * 19 → putLines n ls w ≡ refused w
+  pub lines-few : length ls < n * 19 → Agrees (waiting (record { used = o .used; failed = true }) bs) (putLines n ls (waiting o bs))
   unfolding putLines
-  lines-few h = rw (lt-leb (n * 19) (length ls) h)
+  lines-few h = rw (lt-leb (n * 19) (length ls) h) (agrees-same (refused (waiting o bs)))
 
-  -- so many
-  pub lines-all : n * 19 ≤ length ls → putLines n ls w ≡ putAll (take (n * 19) ls) w
+  -- so many: the bytes from 0 on
+  pub lines-all : (a : Buffered) → n * 19 ≤ length ls → Agrees a (putAll (take (n * 19 - 0) ls) (waiting o bs)) → Agrees a (putLines n ls (waiting o bs))
   unfolding putLines
-  lines-all h = rw (le-leb (n * 19) (length ls) h)
+  lines-all a h p = rw (le-leb (n * 19) (length ls) h) (rw (sub-zero (n * 19)) at p)

@@ -1,50 +1,44 @@
+-- `lines::put::put_answer` meets its contract: room is made for the line, and it is written over the bytes behind what waits.
 use borrow.Author.Needs.{needs}
+use native.Mathlib.Omega.{arith}
+use Rattle.frame.proofs.Laws.Answer.{length-answer}
+use Rattle.lines.proofs.Waiting.{room-fits, put-short, put-by, answer-placed}
 use Rattle.lines.proofs.put.put_answer.Statement.{statement}
 use Rattle.lines.proofs.put.put_answer.Tie as tie
-use Rattle.lines.proofs.put.put_answer.Reads as reads
-use Rattle.lines.proofs.put.put_answer.Lts as lts
-use Rattle.frame.proofs.write_answer.Reads as write-answer-reads
-use Rattle.lines.proofs.output.room.Reads as room-reads
 
--- src/put.rt:18:9
 returns : tie.Need-returns
-returns c = ?
+returns c = put-short _ _ _ (c .if1 .taken)
 
--- src/put.rt:23:9
 room-requires : tie.Need-room-requires
 room-requires c κs = search needs
 
--- src/put.rt:25:40
 add-write-answer : tie.Need-add-write-answer
-add-write-answer c = ?
+add-write-answer c = omega (arith, room-fits 19 _ (c .before .before .before .before .args .out .now) _ (c .before .before .if1 .left) (c .room .ensures))
 
--- src/put.rt:25:25
 sub-write-answer : tie.Need-sub-write-answer
 sub-write-answer c = search needs
 
--- src/put.rt:25:25
 part-write-answer-start : tie.Need-part-write-answer-start
 part-write-answer-start c = search needs
 
--- src/put.rt:25:25
 part-write-answer-end : tie.Need-part-write-answer-end
-part-write-answer-end c = ?
+part-write-answer-end c = room-fits 19 _ (c .before .before .before .before .args .out .now) _ (c .before .before .if1 .left) (c .room .ensures)
 
--- src/put.rt:25:5
 write-answer-requires : tie.Need-write-answer-requires
 write-answer-requires c κs = search needs
 
--- src/put.rt:26:14
 add-o : tie.Need-add-o
-add-o c = ?
+add-o c = omega (arith, room-fits 19 _ (c .before .before .before .before .before .before .before .before .args .out .now) _ (c .before .before .before .before .before .before .if1 .left) (c .before .before .before .before .room .ensures))
 
--- src/put.rt:14:1
 same-length : tie.Need-same-length
 same-length c = search needs
 
--- src/put.rt:14:1
 returns-2 : tie.Need-returns-2
-returns-2 c = ?
+returns-2 c =
+    let bs = c .before .before .before .before .before .before .before .before .args .out .now in
+    let fits = room-fits 19 _ bs _ (c .before .before .before .before .before .before .if1 .left) (c .before .before .before .before .room .ensures) in
+    put-by _ _ bs _ 19 _ (c .before .before .before .before .before .before .if1 .left) (length-answer _ _ _) (c .before .before .before .before .room .ensures)
+    (answer-placed bs _ _ _ _ _ fits (c .before .before .write-answer .ensures))
 
 pub put-answer-spec : {M : Type 1} → statement M
 put-answer-spec =

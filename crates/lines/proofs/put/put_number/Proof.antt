@@ -1,55 +1,47 @@
+-- `lines::put::put_number` meets its contract: a space is put, and the digits behind it, after room is made for them.
 use borrow.Author.Needs.{needs}
+use native.Mathlib.Omega.{arith}
+use Rattle.frame.proofs.Laws.Hex.{length-digits}
+use Rattle.lines.proofs.Waiting.{room-fits, put-short, put-on, put-by, field-placed}
 use Rattle.lines.proofs.put.put_number.Statement.{statement}
 use Rattle.lines.proofs.put.put_number.Tie as tie
-use Rattle.lines.proofs.put.put_number.Reads as reads
-use Rattle.lines.proofs.put.put_number.Lts as lts
-use Rattle.frame.proofs.write_field.Reads as write-field-reads
-use Rattle.lines.proofs.output.room.Reads as room-reads
-use Rattle.lines.proofs.put.put_byte.Reads as put-byte-reads
 
--- src/put.rt:35:9
 returns : tie.Need-returns
-returns c = ?
+returns c = put-on _ _ _ _ (put-short _ _ _ (c .if1 .taken)) (put-short _ _ _ (c .if1 .taken))
 
--- src/put.rt:40:9
 put-byte-requires : tie.Need-put-byte-requires
 put-byte-requires c κs = search needs
 
--- src/put.rt:41:9
 room-requires : tie.Need-room-requires
 room-requires c κs = search needs
 
--- src/put.rt:43:39
 add-write-field : tie.Need-add-write-field
-add-write-field c = ?
+add-write-field c = omega (arith, room-fits 8 _ (c .before .before .before .before .put-byte .last .1 .0) _ (omega arith) (c .room .ensures))
 
--- src/put.rt:43:24
 sub-write-field : tie.Need-sub-write-field
 sub-write-field c = search needs
 
--- src/put.rt:43:24
 part-write-field-start : tie.Need-part-write-field-start
 part-write-field-start c = search needs
 
--- src/put.rt:43:24
 part-write-field-end : tie.Need-part-write-field-end
-part-write-field-end c = ?
+part-write-field-end c = room-fits 8 _ (c .before .before .before .before .put-byte .last .1 .0) _ (omega arith) (c .room .ensures)
 
--- src/put.rt:43:5
 write-field-requires : tie.Need-write-field-requires
 write-field-requires c κs = search needs
 
--- src/put.rt:44:14
 add-o : tie.Need-add-o
-add-o c = ?
+add-o c = omega (arith, room-fits 8 _ (c .before .before .before .before .before .before .before .before .put-byte .last .1 .0) _ (omega arith) (c .before .before .before .before .room .ensures))
 
--- src/put.rt:31:1
 same-length : tie.Need-same-length
 same-length c = search needs
 
--- src/put.rt:31:1
 returns-2 : tie.Need-returns-2
-returns-2 c = ?
+returns-2 c =
+    let bs = c .before .before .before .before .before .before .before .before .put-byte .last .1 .0 in
+    let fits = room-fits 8 _ bs _ (omega arith) (c .before .before .before .before .room .ensures) in
+    put-on _ _ _ _ (c .before .before .before .before .before .before .before .before .put-byte .ensures)
+    (put-by _ _ bs _ 8 _ (omega arith) (length-digits 8 _) (c .before .before .before .before .room .ensures) (field-placed bs _ 8 _ _ fits (c .before .before .write-field .ensures)))
 
 pub put-number-spec : {M : Type 1} → statement M
 put-number-spec =
