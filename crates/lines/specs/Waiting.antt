@@ -63,10 +63,10 @@ roomFor n b = cond (leb (b .used + n) (length (b .bytes))) b (flushed b)
 -- xs stand behind what waits, and wait too
 unfoldable pub placed : List ℕ → Buffered → Buffered
 placed xs b =
-    record
-    { used = b .used + length xs
-    ; bytes = take (b .used) (b .bytes) ++ (xs ++ drop (b .used + length xs) (b .bytes))
-    ; failed = b .failed
+    record {
+      used = b .used + length xs;
+      bytes = take (b .used) (b .bytes) ++ (xs ++ drop (b .used + length xs) (b .bytes));
+      failed = b .failed;
     }
 
 -- XS PUT AT ONCE, after room is made for them; a buffer that has no room for an answer line takes nothing

@@ -51,11 +51,8 @@ pub fn flush(output: Output, buffer: &[u8]) -> Output
             failed: true,
         };
     }
-    let written = io::write_all(1, &buffer[0..used]);
-    Output {
-        used: 0,
-        failed: !written,
-    }
+    let failed = !io::write_all(1, &buffer[0..used]);
+    Output { used: 0, failed }
 }
 
 // Writes out what waits if it is due.

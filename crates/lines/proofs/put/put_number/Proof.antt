@@ -41,7 +41,7 @@ returns-2 c =
     let bs = c .before .before .before .before .before .before .before .before .put-byte .last .1 .0 in
     let fits = room-fits 8 _ bs _ (omega arith) (c .before .before .before .before .room .ensures) in
     put-on _ _ _ _ (c .before .before .before .before .before .before .before .before .put-byte .ensures)
-    (put-by _ _ bs _ 8 _ (omega arith) (length-digits 8 _) (c .before .before .before .before .room .ensures) (field-placed bs _ 8 _ _ fits (c .before .before .write-field .ensures)))
+    (put-by _ _ bs _ 8 _ (omega arith) (length-digits 8 _) (c .before .before .before .before .room .ensures) (field-placed bs _ 8 fits _ _ (c .before .before .write-field .ensures)))
 
 pub put-number-spec : {M : Type 1} → statement M
 put-number-spec =
