@@ -1,8 +1,8 @@
 -- WHAT THE OUTPUT'S CONTRACTS COME TO, read off `specs/Waiting.antt`. Assumes nothing.
---     agrees-unique               two outcomes that a promise allows are the same, but for a failure that the system decides
---     put-failed, all-failed      a failure stays
---     put-fits, all-fits          bytes that fit are placed, at once or one after the other, and nothing is written
---     placed-waits, placed-length then they wait behind what waited, and the buffer has as many bytes as before
+--     agrees-unique                              two outcomes that a promise allows are the same, but for a failure that the system decides
+--     put-failed, all-failed                     a failure stays
+--     put-fits, all-fits                         bytes that fit are placed, at once or one after the other, and nothing else is done
+--     placed-waits, placed-rest, placed-length   then they wait behind what waited, the bytes behind them are as they were, and all are as many
 use mathlib.Core.Path.{_≡_, refl, sym, ap, _∙_, subst}
 use mathlib.Core.Bool.{Bool, true, false, cond}
 use mathlib.Core.List.{List, [], _∷_, _++_, append-assoc}
@@ -13,7 +13,7 @@ use lib.ListN.{length, take, drop, length-append, length-drop, take-append-drop}
 use lib.Seq.{length-take-le, take-at, drop-at, drop-drop}
 use borrow.Author.Tests.{le-leb}
 use Rattle.lines.specs.declared.output.Output.{Output}
-use Rattle.lines.specs.Waiting.{Known, sure, unsure, Buffered, waiting, Allows, Agrees, refused, flushed, roomFor, placed, put, putAll}
+use Rattle.lines.specs.Waiting.{Known, sure, Buffered, waiting, Allows, Agrees, refused, flushed, roomFor, placed, put, putAll}
 use Rattle.lines.proofs.Waiting.{failure-stays}
 
 -- two outcomes that a promise allows: the same bytes wait, the buffers are the same, and so is what is known of a failure
@@ -52,6 +52,7 @@ module _ (xs : List ℕ) (b : Buffered) (fits : b .used + length xs ≤ length (
   front : List ℕ
   front = take (b .used) (b .bytes)
 
+  -- so many bytes wait then
   length-front : length (front ++ xs) ≡ b .used + length xs
   unfolding front
   length-front = simp (length-append, length-take-le (b .used) (b .bytes) (omega arith))
@@ -71,12 +72,12 @@ module _ (xs : List ℕ) (b : Buffered) (fits : b .used + length xs ≤ length (
   unfolding placed
   placed-length = rw (length-append, length-append, length-take-le (b .used) (b .bytes) (omega arith), length-drop) (omega arith)
 
-  -- put at once, they are placed: nothing is written, and nothing fails
+  -- put at once, they are placed, and nothing is written out
   pub put-fits : 19 ≤ length (b .bytes) → put xs b ≡ placed xs b
   unfolding put roomFor
   put-fits h = rw (le-leb 19 (length (b .bytes)) h, le-leb (b .used + length xs) (length (b .bytes)) fits)
 
-  -- more bytes placed behind them: the bytes of the buffer
+  -- more bytes ys placed behind them, byte for byte
   bytes-more : (ys : List ℕ)
       → take (placed xs b .used) (placed xs b .bytes) ++ (ys ++ drop (placed xs b .used + length ys) (placed xs b .bytes))
       ≡ take (b .used) (b .bytes) ++ (xs ++ ys ++ drop (b .used + length (xs ++ ys)) (b .bytes))
@@ -86,14 +87,14 @@ module _ (xs : List ℕ) (b : Buffered) (fits : b .used + length xs ≤ length (
       let n : b .used + length (xs ++ ys) ≡ b .used + length xs + length ys = rw (length-append xs ys) (omega arith) in
       rw (placed-waits, d, n, append-assoc xs ys, append-assoc (take (b .used) (b .bytes)) xs)
 
-  -- they are placed with them
+  -- those are placed with them
   placed-more : (ys : List ℕ) → placed ys (placed xs b) ≡ placed (xs ++ ys) b
   unfolding placed
   placed-more ys =
       let n : b .used + length xs + length ys ≡ b .used + length (xs ++ ys) = rw (length-append xs ys) (omega arith) in
       λ i. record { used = n i; bytes = bytes-more ys i; failed = b .failed }
 
--- no bytes
+-- no bytes placed
 placed-none : (b : Buffered) → b ≡ placed [] b
 unfolding placed
 placed-none b = λ i. record { used = n i; bytes = e i; failed = b .failed }

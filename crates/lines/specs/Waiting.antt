@@ -1,5 +1,5 @@
 -- THE OUTPUT BUFFER: what each call leaves of it, for any buffer and any place in it. How many bytes wait and every byte of the buffer are
--- determined. Whether a write failed is determined too, but where the system was asked to write: there its answer decides.
+-- determined. Whether there was a failure is determined too, but where the system was asked to write: there it is open, and its answer decides.
 use mathlib.Core.Path.{_≡_}
 use mathlib.Core.Bool.{Bool, true, false, cond}
 use mathlib.Core.List.{List, [], _∷_, _++_}
@@ -8,7 +8,7 @@ use lib.Dec.{eqb, leb}
 use lib.ListN.{length, take, drop}
 use Rattle.lines.specs.declared.output.Output.{Output}
 
--- WHAT IS KNOWN of a failure: that there was one or none, or nothing, since the system's answer decides
+-- WHAT IS KNOWN of a failure: there was one or there was none, or it is open
 pub data Known : Type 0 where
   sure : Bool → Known
   unsure : Known
@@ -23,18 +23,18 @@ pub record Buffered : Type 0 where
 abbrev pub waiting : Output → List ℕ → Buffered
 waiting o bs = record { used = o .used; bytes = bs; failed = sure (o .failed) }
 
--- what is known allows whatever is the same, and nothing known allows all
+-- what is sure allows the same alone, what is open allows anything
 abbrev pub Allows : Known → Known → Type 0
 Allows (sure b) k = k ≡ sure b
 Allows unsure k = Unit {0}
 
--- THE PROMISE: a is w, but for a failure that the system decides
+-- THE PROMISE: a is w, but for a failure that w leaves open
 pub record Agrees (a w : Buffered) : Type 0 where
   pub used : a .used ≡ w .used
   pub bytes : a .bytes ≡ w .bytes
   pub failed : Allows (w .failed) (a .failed)
 
--- after a write a failure stays a failure; else the system's answer decides
+-- after a write: a failure stays, else the system's answer decides
 abbrev pub tried : Known → Known
 tried (sure true) = sure true
 tried (sure false) = unsure
@@ -44,11 +44,11 @@ tried unsure = unsure
 abbrev pub refused : Buffered → Buffered
 refused b = record { used = b .used; bytes = b .bytes; failed = sure true }
 
--- whether there is a failure after what waits is written out: where nothing waits none is added, and where more is said to wait than there is, bytes are missing
+-- failures after what waits is written out: none is added where nothing waits; where more is said to wait than there is, bytes are missing
 unfoldable pub failureOf : Buffered → Known
 failureOf b = cond (eqb (b .used) 0) (b .failed) (cond (leb (b .used) (length (b .bytes))) (tried (b .failed)) (sure true))
 
--- what waits is written out: nothing waits then
+-- what waits is written out: nothing waits any more
 abbrev pub flushed : Buffered → Buffered
 flushed b = record { used = 0; bytes = b .bytes; failed = failureOf b }
 
@@ -69,7 +69,7 @@ placed xs b =
       failed = b .failed;
     }
 
--- XS PUT AT ONCE, after room is made for them; a buffer that has no room for an answer line takes nothing
+-- XS PUT AT ONCE, at most nineteen of them, after room is made; a buffer that has no room for an answer line takes nothing
 unfoldable pub put : List ℕ → Buffered → Buffered
 put xs b = cond (leb 19 (length (b .bytes))) (placed xs (roomFor (length xs) b)) (refused b)
 

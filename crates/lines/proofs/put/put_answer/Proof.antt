@@ -13,7 +13,8 @@ room-requires : tie.Need-room-requires
 room-requires c κs = search needs
 
 add-write-answer : tie.Need-add-write-answer
-add-write-answer c = omega (arith, room-fits 19 _ (c .before .before .before .before .args .out .now) _ (c .before .before .if1 .left) (c .room .ensures))
+add-write-answer c =
+    omega (arith, room-fits 19 _ (c .before .before .before .before .args .out .now) _ (c .before .before .if1 .left) (c .room .ensures))
 
 sub-write-answer : tie.Need-sub-write-answer
 sub-write-answer c = search needs
@@ -28,16 +29,20 @@ write-answer-requires : tie.Need-write-answer-requires
 write-answer-requires c κs = search needs
 
 add-o : tie.Need-add-o
-add-o c = omega (arith, room-fits 19 _ (c .before .before .before .before .before .before .before .before .args .out .now) _ (c .before .before .before .before .before .before .if1 .left) (c .before .before .before .before .room .ensures))
+add-o c =
+    let made = c .before .before .before .before in
+    omega (arith, room-fits 19 _ (made .before .before .before .before .args .out .now) _ (made .before .before .if1 .left) (made .room .ensures))
 
 same-length : tie.Need-same-length
 same-length c = search needs
 
 returns-2 : tie.Need-returns-2
 returns-2 c =
-    let bs = c .before .before .before .before .before .before .before .before .args .out .now in
-    let fits = room-fits 19 _ bs _ (c .before .before .before .before .before .before .if1 .left) (c .before .before .before .before .room .ensures) in
-    put-by _ _ bs _ 19 _ (c .before .before .before .before .before .before .if1 .left) (length-answer _ _ _) (c .before .before .before .before .room .ensures)
+    let made = c .before .before .before .before in
+    let long = made .before .before .if1 .left in
+    let bs = made .before .before .before .before .args .out .now in
+    let fits = room-fits 19 _ bs _ long (made .room .ensures) in
+    put-by _ _ bs _ 19 _ long (length-answer _ _ _) (made .room .ensures)
     (answer-placed bs _ _ _ _ _ fits (c .before .before .write-answer .ensures))
 
 pub put-answer-spec : {M : Type 1} → statement M

@@ -1,5 +1,5 @@
--- `lines::put::put_bytes` meets its contract. Invariant: the buffer is what putting the first k bytes leaves, and keeps its length. A turn puts one byte
--- more. Measure: the bytes left.
+-- `lines::put::put_bytes` meets its contract. Invariant: the buffer is what putting the first k bytes leaves, and keeps its length. A turn puts one
+-- byte more, on what is known of the turns before. Measure: the bytes left.
 use borrow.Author.Needs.{needs}
 use mathlib.Core.Path.{_≡_}
 use Prim.Native.Nat.{_≤_, _-_}
@@ -32,12 +32,10 @@ loop-less : tie.Need-loop-less Inv-loop μ-loop
 loop-less c = search needs
 
 loop-again : tie.Need-loop-again Inv-loop μ-loop
-loop-again c = (
-  search needs,
-  search needs,
-  all-on (c .before .before .before .before .before .before .before .before .before .args .bytes .now) _ _ _ _ (c .before .before .before .before .before .loop-test .taken)
-      (c .before .before .before .before .before .before .loop .inv .2) (c .before .before .put-byte .ensures),
-)
+loop-again c =
+    let turn = c .before .before .before .before .before .before in
+    let bs = turn .before .before .before .args .bytes .now in
+    (search needs, search needs, all-on bs _ _ _ _ (c .before .before .before .before .before .loop-test .taken) (turn .loop .inv .2) (c .before .before .put-byte .ensures))
 
 same-length : tie.Need-same-length Inv-loop μ-loop
 same-length c = search needs

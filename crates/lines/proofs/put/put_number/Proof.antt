@@ -31,17 +31,21 @@ write-field-requires : tie.Need-write-field-requires
 write-field-requires c κs = search needs
 
 add-o : tie.Need-add-o
-add-o c = omega (arith, room-fits 8 _ (c .before .before .before .before .before .before .before .before .put-byte .last .1 .0) _ (omega arith) (c .before .before .before .before .room .ensures))
+add-o c =
+    let made = c .before .before .before .before in
+    omega (arith, room-fits 8 _ (made .before .before .before .before .put-byte .last .1 .0) _ (omega arith) (made .room .ensures))
 
 same-length : tie.Need-same-length
 same-length c = search needs
 
 returns-2 : tie.Need-returns-2
 returns-2 c =
-    let bs = c .before .before .before .before .before .before .before .before .put-byte .last .1 .0 in
-    let fits = room-fits 8 _ bs _ (omega arith) (c .before .before .before .before .room .ensures) in
-    put-on _ _ _ _ (c .before .before .before .before .before .before .before .before .put-byte .ensures)
-    (put-by _ _ bs _ 8 _ (omega arith) (length-digits 8 _) (c .before .before .before .before .room .ensures) (field-placed bs _ 8 fits _ _ (c .before .before .write-field .ensures)))
+    let made = c .before .before .before .before in
+    let spaced = made .before .before .before .before in
+    let bs = spaced .put-byte .last .1 .0 in
+    let fits = room-fits 8 _ bs _ (omega arith) (made .room .ensures) in
+    put-on _ _ _ _ (spaced .put-byte .ensures)
+    (put-by _ _ bs _ 8 _ (omega arith) (length-digits 8 _) (made .room .ensures) (field-placed bs _ 8 fits _ _ (c .before .before .write-field .ensures)))
 
 pub put-number-spec : {M : Type 1} → statement M
 put-number-spec =
