@@ -5,8 +5,9 @@
 //     output   a buffer, which is written out when it is full
 //     put      an answer line, a number, bytes, lines into that buffer
 //
-// The buffers are the caller's. Nothing is proved here but that every call is safe and ends, given that each read and write returns: no
-// contract can say which bytes the system gives.
+// The buffers are the caller's. Every call is safe and ends, given that each read and write returns. Of the input nothing more is proved: no
+// contract can say which bytes the system gives. Of the output it is proved, for every call, how many bytes wait and which, and that a failure
+// stays (specs/Waiting.antt); not that what waits is written: no contract can say what the system does with it.
 mod input;
 mod output;
 mod put;

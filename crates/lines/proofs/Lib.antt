@@ -1,0 +1,3 @@
+-- The laws of what the contracts cite.
+pub mod Waiting
+pub mod Outcomes
