@@ -3,7 +3,7 @@
 --     flush-none, flush-failed, flush-missing, flush-tried   the ways through a flush
 --     room-there, room-made, room-fits                       there is room, it is made, and then so many bytes fit
 --     put-on                                                 a put after a put: what is known of the first goes on into the second
---     put-short, put-by                                      a buffer that takes nothing; room made and bytes placed
+--     put-short, put-short-on, put-by                        a buffer that takes nothing; room made and bytes placed
 --     set-placed, field-placed, answer-placed                a byte, digits, an answer line, as the code lays them behind what waits
 --     all-none, all-on, all-done                             bytes one after the other: the start, a turn, the end
 --     lines-few, lines-all                                   not so many lines, and so many
@@ -175,9 +175,14 @@ put-on xs a b w p q = agrees-on a (put xs b) (put xs w) q (steady-keeps (put xs)
 
 module _ (xs : List ℕ) (o : Output) (bs : List ℕ) where
   -- too short a buffer takes nothing
-  pub put-short : length bs < 19 → Agrees (waiting (record { used = o .used; failed = true }) bs) (put xs (waiting o bs))
+  pub put-short : (r : Output) → length bs < 19 → r ≡ record { used = o .used; failed = true } → Agrees (waiting r bs) (put xs (waiting o bs))
   unfolding put
-  put-short h = rw (lt-leb 19 (length bs) h) (agrees-same (refused (waiting o bs)))
+  put-short r h e = rw (e, lt-leb 19 (length bs) h) (agrees-same (refused (waiting o bs)))
+
+  -- nor what is put after it
+  pub put-short-on : (ys : List ℕ) (r : Output) → length bs < 19 → r ≡ record { used = o .used; failed = true } → Agrees (waiting r bs) (put ys (put xs (waiting o bs)))
+  unfolding put
+  put-short-on ys r h e = simp (e, lt-leb 19 (length bs) h) (agrees-same (refused (waiting o bs)))
 
   -- else room is made and the bytes are placed
   pub put-by : (r : Output) (n : ℕ) (cs : List ℕ) → 19 ≤ length bs → length xs ≡ n → Agrees (waiting r bs) (roomFor n (waiting o bs))
@@ -245,9 +250,9 @@ module _ (xs : List ℕ) (w : Buffered) where
 
 module _ (n : ℕ) (ls : List ℕ) (o : Output) (bs : List ℕ) where
   -- not so many
-  pub lines-few : length ls < n * 19 → Agrees (waiting (record { used = o .used; failed = true }) bs) (putLines n ls (waiting o bs))
+  pub lines-few : (r : Output) → length ls < n * 19 → r ≡ record { used = o .used; failed = true } → Agrees (waiting r bs) (putLines n ls (waiting o bs))
   unfolding putLines
-  lines-few h = rw (lt-leb (n * 19) (length ls) h) (agrees-same (refused (waiting o bs)))
+  lines-few r h e = rw (e, lt-leb (n * 19) (length ls) h) (agrees-same (refused (waiting o bs)))
 
   -- so many: the bytes from 0 on
   pub lines-all : (a : Buffered) → n * 19 ≤ length ls → Agrees a (putAll (take (n * 19 - 0) ls) (waiting o bs)) → Agrees a (putLines n ls (waiting o bs))

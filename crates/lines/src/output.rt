@@ -1,6 +1,6 @@
 // Standard output through a buffer of the caller's. Contracts cite specs/Waiting.antt.
 ghost use mathlib.Core.Path.{_≡_};
-ghost use mathlib.Core.Bool.{false};
+ghost use mathlib.Core.Bool.{true, false};
 ghost use Prim.Native.Nat.{_≤_};
 ghost use lib.ListN.{length};
 ghost use Rattle.lines.specs.Waiting.{waiting, Agrees, flushed, flushedIf, roomFor};
@@ -21,6 +21,16 @@ impl Output {
         Output {
             used: 0,
             failed: false,
+        }
+    }
+
+    // The same place with a failure.
+    pub(crate) fn refused(self) -> Output
+        ensures { λ r. ⌜ r ≡ record { used = self .used; failed = true } ⌝ }
+    {
+        Output {
+            used: self.used,
+            failed: true,
         }
     }
 }

@@ -15,10 +15,7 @@ pub fn put_answer(output: Output, out: &mut [u8], number: u8, value: u32, compar
     ensures { λ r. ⌜ Agrees (waiting r (now (out .exit))) (put (answerBytes number value compared) (waiting output (now (out .entry)))) ⌝ }
 {
     if out.len() < LINE {
-        return Output {
-            used: output.used,
-            failed: true,
-        };
+        return output.refused();
     }
     let mut o = room(output, out, LINE);
     let used = o.used;
@@ -32,10 +29,7 @@ pub fn put_number(output: Output, out: &mut [u8], number: u32) -> Output
     ensures { λ r. ⌜ Agrees (waiting r (now (out .exit))) (put (digitsOf 8 number) (put (32 ∷ []) (waiting output (now (out .entry))))) ⌝ }
 {
     if out.len() < LINE {
-        return Output {
-            used: output.used,
-            failed: true,
-        };
+        return output.refused();
     }
     let spaced = put_byte(output, out, 32);
     let mut o = room(spaced, out, 8);
@@ -50,10 +44,7 @@ pub fn put_byte(output: Output, out: &mut [u8], byte: u8) -> Output
     ensures { λ r. ⌜ Agrees (waiting r (now (out .exit))) (put (byte ∷ []) (waiting output (now (out .entry)))) ⌝ }
 {
     if out.len() < LINE {
-        return Output {
-            used: output.used,
-            failed: true,
-        };
+        return output.refused();
     }
     let mut o = room(output, out, 1);
     let used = o.used;
@@ -80,10 +71,7 @@ pub fn put_lines(output: Output, out: &mut [u8], bytes: &[u8], n: usize) -> Outp
     ensures { λ r. ⌜ Agrees (waiting r (now (out .exit))) (putLines n (now (bytes .entry)) (waiting output (now (out .entry)))) ⌝ }
 {
     if bytes.len() / LINE < n {
-        return Output {
-            used: output.used,
-            failed: true,
-        };
+        return output.refused();
     }
     put_bytes(output, out, &bytes[0..n * LINE])
 }

@@ -6,8 +6,11 @@ use Rattle.lines.proofs.Waiting.{room-fits, put-short, put-by, answer-p
 use Rattle.lines.proofs.put.put_answer.Statement.{statement}
 use Rattle.lines.proofs.put.put_answer.Tie as tie
 
+refused-requires : tie.Need-refused-requires
+refused-requires c κs = search needs
+
 returns : tie.Need-returns
-returns c = put-short _ _ _ (c .if1 .taken)
+returns c = put-short _ _ _ _ (c .before .if1 .taken) (c .refused .ensures)
 
 room-requires : tie.Need-room-requires
 room-requires c κs = search needs
@@ -49,6 +52,7 @@ pub put-answer-spec : {M : Type 1} → statement M
 put-answer-spec =
     tie.close
     (tie.spec
+    refused-requires
     returns
     room-requires
     add-write-answer

@@ -6,8 +6,11 @@ use Rattle.lines.proofs.Waiting.{room-fits, put-short, put-by, set-plac
 use Rattle.lines.proofs.put.put_byte.Statement.{statement}
 use Rattle.lines.proofs.put.put_byte.Tie as tie
 
+refused-requires : tie.Need-refused-requires
+refused-requires c κs = search needs
+
 returns : tie.Need-returns
-returns c = put-short _ _ _ (c .if1 .taken)
+returns c = put-short _ _ _ _ (c .before .if1 .taken) (c .refused .ensures)
 
 room-requires : tie.Need-room-requires
 room-requires c κs = search needs
@@ -29,4 +32,4 @@ returns-2 c =
 
 pub put-byte-spec : {M : Type 1} → statement M
 put-byte-spec =
-    tie.close (tie.spec returns room-requires slice-write-out add-o same-length returns-2)
+    tie.close (tie.spec refused-requires returns room-requires slice-write-out add-o same-length returns-2)

@@ -5,8 +5,11 @@ use Rattle.lines.proofs.Waiting.{lines-few, lines-all}
 use Rattle.lines.proofs.put.put_lines.Statement.{statement}
 use Rattle.lines.proofs.put.put_lines.Tie as tie
 
+refused-requires : tie.Need-refused-requires
+refused-requires c κs = search needs
+
 returns : tie.Need-returns
-returns c = lines-few _ (c .before .before .before .args .bytes .now) _ _ (omega arith)
+returns c = lines-few _ (c .before .before .before .before .args .bytes .now) _ _ _ (omega arith) (c .refused .ensures)
 
 mul-put-bytes : tie.Need-mul-put-bytes
 mul-put-bytes c = search needs
@@ -33,6 +36,7 @@ pub put-lines-spec : {M : Type 1} → statement M
 put-lines-spec =
     tie.close
     (tie.spec
+    refused-requires
     returns
     mul-put-bytes
     sub-put-bytes

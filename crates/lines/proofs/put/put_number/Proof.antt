@@ -2,12 +2,15 @@
 use borrow.Author.Needs.{needs}
 use native.Mathlib.Omega.{arith}
 use Rattle.frame.proofs.Laws.Hex.{length-digits}
-use Rattle.lines.proofs.Waiting.{room-fits, put-short, put-on, put-by, field-placed}
+use Rattle.lines.proofs.Waiting.{room-fits, put-short-on, put-on, put-by, field-placed}
 use Rattle.lines.proofs.put.put_number.Statement.{statement}
 use Rattle.lines.proofs.put.put_number.Tie as tie
 
+refused-requires : tie.Need-refused-requires
+refused-requires c κs = search needs
+
 returns : tie.Need-returns
-returns c = put-on _ _ _ _ (put-short _ _ _ (c .if1 .taken)) (put-short _ _ _ (c .if1 .taken))
+returns c = put-short-on _ _ _ _ _ (c .before .if1 .taken) (c .refused .ensures)
 
 put-byte-requires : tie.Need-put-byte-requires
 put-byte-requires c κs = search needs
@@ -51,6 +54,7 @@ pub put-number-spec : {M : Type 1} → statement M
 put-number-spec =
     tie.close
     (tie.spec
+    refused-requires
     returns
     put-byte-requires
     room-requires
