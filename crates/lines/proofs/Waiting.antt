@@ -9,19 +9,19 @@
 --     lines-few, lines-all                                   not so many lines, and so many
 use mathlib.Core.Path.{_≡_, refl, ap, _∙_, subst}
 use mathlib.Core.Bool.{Bool, true, false, cond}
-use mathlib.Core.List.{List, [], _∷_, _++_, append-nil}
+use mathlib.Core.List.{List, [], _∷_, _++_}
 use Prim.Native.Nat.{ℕ, _+_, _-_, _*_, _≤_, _<_}
 use native.Mathlib.Omega.{arith}
 use native.Mathlib.Nat.{sub-zero}
 use native.Mathlib.Numerals.{add-one}
 use lib.Dec.{eqb, leb}
-use lib.ListN.{length, getD, take, drop, set, drop-of-length-le}
+use lib.ListN.{length, getD, take, drop, set}
 use lib.Seq.{set-split, take-suc, take-all}
 use borrow.Author.Tests.{le-leb, lt-leb, leb-true, eq-eqb, ne-eqb}
 use borrow.Rule.Slice.PartMut.{midOf, putMid, post-is, mid-len}
 use Rattle.frame.specs.Hex.{digitsOf}
 use Rattle.frame.specs.Answer.{answerBytes, answered}
-use Rattle.frame.proofs.Laws.Answer.{answered-room}
+use Rattle.frame.proofs.Laws.Answer.{answered-all}
 use Rattle.lines.specs.declared.output.Output.{Output}
 use Rattle.lines.specs.Waiting.{Known, sure, unsure, Buffered, waiting, Allows, Agrees, tried, refused, failureOf, flushed, roomFor, placed, put, putAll, putLines}
 
@@ -219,9 +219,7 @@ pub answer-placed : (bs x : List ℕ) (u number value compared : ℕ) → u + 19
     → putMid u (u + 19 - u) bs x ≡ take u bs ++ (answerBytes number value compared ++ drop (u + 19) bs)
 answer-placed bs x u number value compared h e =
     let m : List ℕ = midOf u (u + 19 - u) bs in
-    let l : length m ≡ 19 = length-part bs u 19 h in
-    let nothing : drop 19 m ≡ [] = drop-of-length-le m {i = 19} (omega arith) in
-    rw (e, answered-room m number value compared (omega arith), nothing, append-nil) (part-placed bs u 19 (answerBytes number value compared))
+    rw (e, answered-all m number value compared (length-part bs u 19 h)) (part-placed bs u 19 (answerBytes number value compared))
 
 -- ---- BYTES ONE AFTER THE OTHER
 

@@ -7,11 +7,11 @@
 --     sound-no-room, sound-done           the call's ways out for a sound heap
 use mathlib.Core.Path.{_≡_, refl, sym, ap, _∙_}
 use mathlib.Core.Bool.{Bool, true, false}
-use mathlib.Core.List.{List, [], _∷_, _++_, append-nil}
+use mathlib.Core.List.{List, [], _∷_, _++_}
 use Prim.Native.Nat.{ℕ, zero, suc, _+_, _-_, _*_, _/_, _≤_, _<_}
 use native.Mathlib.Omega.{arith}
 use native.Mathlib.Decide.{ℕ-discrete}
-use lib.ListN.{length, drop, length-drop, drop-of-length-le}
+use lib.ListN.{length, drop, length-drop}
 use lib.Seq.{length-take-le}
 use borrow.Rule.Slice.PartMut.{midOf, putMid}
 use borrow.Author.Tests.{eq-eqb, ne-eqb}
@@ -27,7 +27,7 @@ use Rattle.heap.specs.Seen.{seen}
 use Rattle.heap.specs.Answer.{soundAt}
 use Rattle.heap.proofs.Answers.{ours}
 use Rattle.frame.specs.Answer.{answerBytes, answered}
-use Rattle.frame.proofs.Laws.Answer.{length-answer, answered-room}
+use Rattle.frame.proofs.Laws.Answer.{length-answer, answered-all}
 use Rattle.map.specs.Rows.{linesOf}
 use Rattle.map.specs.Layout.{kindOf, mapOf}
 use Rattle.map.specs.Calls.{over, rowsOf, written}
@@ -73,18 +73,13 @@ module _ (ws : List ℕ) (e n : ℕ) (en : n ≡ lengthOf (at ws (e / 4))) where
 
 -- ---- THE ROOM
 
--- a line over nineteen bytes is the line
-line-over : (out : List ℕ) (k e n : ℕ) → length out ≡ 19 → answered out k e n ≡ answerBytes k e n
-line-over out k e n l =
-    answered-room out k e n (omega arith) ∙ rw (drop-of-length-le out {i = 19} (omega arith), append-nil)
-
 -- a line put at place i
 line-put : (room x : List ℕ) (i w k e n : ℕ) → w ≡ 19 → i + 19 ≤ length room → x ≡ answered (midOf i w room) k e n
     → putMid i w room x ≡ overFrom i (answerBytes k e n) room
 unfolding overFrom over
 line-put room x i w k e n ew h ex =
     let m : length (midOf i w room) ≡ 19 = length-take-le w (drop i room) (omega (arith, length-drop i room)) ∙ ew in
-    rw (ex, line-over (midOf i w room) k e n m, ew, length-answer k e n)
+    rw (ex, answered-all (midOf i w room) k e n m, ew, length-answer k e n)
 
 -- ---- THE KINDS
 
