@@ -15,10 +15,12 @@
  *         lischemur_take_back(&record, memory.heap, 1023, r.value);
  *     }
  *
- * Every call accepts any record, any words and any number: what is damaged or makes no sense is refused by number, and a
+ * Every call accepts any record, words, room and number: what is damaged or makes no sense is refused by number, and a
  * refusal changes nothing. That is proved. What a caller owes, because no proof can see it:
  *   - `heap` is not null, not even for 0 words, is aligned for uint32_t, and is followed by `heap_words` words;
- *   - record and words do not overlap, and nothing else reads or writes them during a call (mask interrupts, or hold a lock);
+ *   - `room` is not null, not even for 0 bytes, and is followed by `room_bytes` bytes;
+ *   - record, words and room do not overlap, and nothing else reads or writes them during a call (mask interrupts, or hold
+ *     a lock);
  *   - `fresh` holds true or false, as a bool does.
  *
  * A slice of Rattle is a pointer and a 64-bit count in C, on every processor. `rt staticlib door` builds the library for
@@ -45,6 +47,10 @@ extern "C" {
 #define LISCHEMUR_MOST_WORDS UINT32_C(65529)
 #define LISCHEMUR_MOST_SIZE UINT32_C(4294967284)
 
+/* The bytes of a map's line, and of room that suffices for the map of any heap of so many words, 5 or more. */
+#define LISCHEMUR_MAP_LINE UINT32_C(19)
+#define LISCHEMUR_MAP_ROOM(words) (((words) - 1) / 4 * LISCHEMUR_MAP_LINE)
+
 /*
  * The type of a run of `words` words whose start is 4 mod 8. Payload offsets are 4 mod 8 too, so that every payload is
  * 8-aligned. The calls do not mind another start; the payloads are then only 4-aligned.
@@ -57,13 +63,14 @@ extern "C" {
 
 /* What a reply says. */
 enum lischemur_number {
-    LISCHEMUR_DONE = 0,       /* the value is the payload's offset for a handout, else 0 */
+    LISCHEMUR_DONE = 0,       /* the value is the payload's offset for a handout, the number of lines for a map, else 0 */
     LISCHEMUR_ZERO_SIZE = 1,  /* zero bytes were asked for */
     LISCHEMUR_TOO_LARGE = 2,  /* more than LISCHEMUR_MOST_SIZE bytes were asked for */
     LISCHEMUR_NO_FIT = 3,     /* neither the cached chunk nor a listed one serves */
     LISCHEMUR_NOT_LIVE = 4,   /* the offset is no payload's that is handed out: a second free, say */
     LISCHEMUR_DAMAGED = 5,    /* record and words are not sound together, or no heap was made */
     LISCHEMUR_BAD_LENGTH = 6, /* a heap cannot be made of so many words */
+    LISCHEMUR_NO_ROOM = 6,    /* the map is longer than the room */
     LISCHEMUR_NO_FRAME = 7    /* the trace program's alone: no call here replies it */
 };
 
@@ -83,10 +90,10 @@ typedef struct lischemur_record {
     bool fresh;         /* high water has risen since the mark was last read */
 } lischemur_record;
 
-/* What making, handing out and taking back reply. */
+/* What making, handing out, taking back and writing the map reply. */
 typedef struct lischemur_reply {
     uint32_t number;   /* an enum lischemur_number */
-    uint32_t value;    /* the payload's offset for a handout that is done, else 0 */
+    uint32_t value;    /* the payload's offset for a handout that is done, the number of lines for a map that is, else 0 */
     uint32_t compared; /* how many free chunks were compared with the size */
 } lischemur_reply;
 
@@ -115,6 +122,15 @@ lischemur_reply lischemur_take_back(lischemur_record *record, uint32_t *heap, ui
 
 /* 1 if record and words are sound together, else 0. Handing out and taking back test this themselves. */
 uint32_t lischemur_audit(lischemur_record record, const uint32_t *heap, uint64_t heap_words);
+
+/*
+ * Writes the heap's map at the start of the room: a line for each chunk, left to right, as many as the reply's value says.
+ * A line has two digits of kind (10 free, 11 live, 12 cached), eight of the header's offset and eight of the chunk's length,
+ * hexadecimal in upper case, and a line feed; no zero byte ends the map. Replies 5, or 6 if the room is too short, tested in
+ * that order. The room past the lines keeps its bytes, and after a 5 or a 6 all of it does.
+ */
+lischemur_reply lischemur_write_map(
+    lischemur_record record, const uint32_t *heap, uint64_t heap_words, char *room, uint64_t room_bytes);
 
 /* The mark: high water less 108 bytes for each of so many stacklets, if it has risen since it was last read. */
 lischemur_marking lischemur_mark(lischemur_record record, uint32_t stacklets);

@@ -1,6 +1,7 @@
 """The traces that the meter answers, and the calls that are counted, made on the host from the rules' model (oracle/model.py).
 
     WHOLE      the whole run of the rules, with the lines that they give for it
+    night      the requests of the tasks' night up to each of its maps, and the maps
     random     ten thousand lines: the first part on the largest heap of the trace program, the rest on heaps of many sizes, with
                wrong frees, sizes at the limits and lines that are no frames among them
     calls      the part on the largest heap again, as calls that any heap can serve: a slot in place of an offset
@@ -13,8 +14,10 @@ import random
 import sys
 
 sys.dont_write_bytecode = True
-sys.path.insert(0, os.path.join(os.path.dirname(os.path.abspath(__file__)), "..", "oracle"))
+ROOT = os.path.join(os.path.dirname(os.path.abspath(__file__)), "..")
+sys.path[:0] = [os.path.join(ROOT, "oracle"), os.path.join(ROOT, "tests", "map")]
 import model  # noqa: E402
+from compare import map_of  # noqa: E402
 
 LINES = 10_000  # lines of the random trace
 FIRST = 6_000  # of these, on the largest heap
@@ -38,6 +41,30 @@ WHOLE = (
 030000000000000000
 """.split(),
 )
+
+
+def night():
+    """The night of firmware/meter.c: its frames up to each map that it prints, and the lines of that map, from the model."""
+    trace, frames, maps = model.Trace(), [], []
+
+    def ask(kind, number):
+        frames.append(b"%02X%08X\n" % (kind, number))
+        return trace.request(kind, number)[0].value
+
+    def paper():
+        maps.append((b"".join(frames), map_of(trace.heap).decode().split()))
+
+    ask(MAKE, model.TRACE_WORDS)
+    alarm = ask(HAND_OUT, 12)
+    for _ in range(3):
+        ask(HAND_OUT, 2**32 - 1)
+        packet = ask(HAND_OUT, 48)
+        ask(TAKE_BACK, packet)
+        ask(TAKE_BACK, packet)
+    paper()
+    ask(TAKE_BACK, alarm)
+    paper()
+    return maps
 
 
 def size_of(rng):

@@ -202,8 +202,8 @@ heap has 16,383 words.
 | Heap, by chunks | Audit over walk | Spread | Target |
 |---|---|---|---|
 {}
-Where the time goes: the tiling is walked twice, the first time with all tests, the second with one. Each list is followed once both
-ways, and once more for each of the 8 windows of 2,048 words. With few chunks a fixed cost shows, which a heap just made has alone.
+Where the time goes: the tiling is walked with all tests, and from its first free chunk on once more with one. Each list is followed
+once both ways, and once more for each of the 8 windows of 2,048 words. With few chunks a fixed cost shows, which a heap just made has alone.
 States that tell these apart, and one that shows that it is the same wherever the cached chunk stands:
 
 | Heap, by chunks | Audit over walk | Spread |

@@ -10,7 +10,7 @@
 
 struct answer {
     uint32_t number;   /* 0 to 6, as in the rules */
-    uint32_t value;    /* the payload's offset for a handout */
+    uint32_t value;    /* the payload's offset for a handout, the number of lines for a map */
     uint32_t compared; /* how many free chunks were compared */
 };
 
@@ -30,6 +30,10 @@ struct figures {
     int64_t mark;
 };
 struct figures kernel_figures(void);
+
+/* the heap's map, written into lent bytes: the value is the number of lines, each of MAP_LINE bytes */
+#define MAP_LINE 19u
+struct answer kernel_map(char *room, uint32_t bytes);
 
 /* the word at an offset that was handed out */
 uint32_t *kernel_word(uint32_t offset);

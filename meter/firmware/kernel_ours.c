@@ -1,6 +1,7 @@
 /* The proved heap behind the kernel's calls: one record, one run of words, and the door of include/lischemur.h.
  *
- * With MEASURE_STACK each call is made on a painted stack; without, it is the bare call. */
+ * With MEASURE_STACK each call is made on a painted stack; without, it is the bare call. With CALLS_ONLY the figures and the
+ * map are left out, so that a library that lacks one of their functions can be counted too. */
 #include "kernel.h"
 #include "board.h"
 #include <lischemur.h>
@@ -63,6 +64,7 @@ struct answer kernel_audit(void)
     return (struct answer){lischemur_audit(record, heap, lent) ? 0 : 5, 0, 0};
 }
 
+#ifndef CALLS_ONLY
 struct figures kernel_figures(void)
 {
     lischemur_marking m = lischemur_mark(record, 1);
@@ -71,6 +73,15 @@ struct figures kernel_figures(void)
         lischemur_in_use(record), lischemur_committed(record), lischemur_peak(record), lischemur_high_water(record), m.changed ? m.mark : 1,
     };
 }
+
+_Static_assert(MAP_LINE == LISCHEMUR_MAP_LINE, "the bytes of a map's line");
+
+struct answer kernel_map(char *room, uint32_t bytes)
+{
+    CALLED(lischemur_write_map(record, heap, lent, room, bytes))
+    return (struct answer){reply.number, reply.value, reply.compared};
+}
+#endif
 
 uint32_t *kernel_word(uint32_t offset)
 {

@@ -2,7 +2,7 @@
 
     python3 tests/c/compare.py TRACE [HISTORIES]
 
-TRACE is the built trace program. After every request the answer, the record and each word must be equal. Writes how
+TRACE is the built trace program. After every request the answer, the record, each word and the map must be equal. Writes how
 many lines were compared; the first difference is shown and ends the run with status 1.
 """
 
@@ -11,17 +11,24 @@ import subprocess
 import sys
 from pathlib import Path
 
-sys.path.insert(0, str(Path(__file__).resolve().parents[2] / "oracle"))
+ROOT = Path(__file__).resolve().parents[2]
+sys.path[:0] = [str(ROOT / "oracle"), str(ROOT / "tests" / "map")]
 import histories
 import model
+from compare import map_of  # the map of the model's heap: tests/map/compare.py
 
 FIELDS = ("words", "in_use", "committed", "peak", "high", "cached")
+
+
+def map_shown(heap):
+    """The map as trace.c writes it."""
+    return map_of(heap).decode().replace("\n", ",") if heap.sound() else "%d/0/0" % model.DAMAGED
 
 
 def whole_state(heap):
     """The state as trace.c writes it: the door's links and words are the model's, so nothing needs naming."""
     r = heap.record
-    return "words=%d in_use=%d committed=%d peak=%d high=%d fresh=%d cached=%d sound=%d lent=%d links=%s memory=%s" % (
+    return "words=%d in_use=%d committed=%d peak=%d high=%d fresh=%d cached=%d sound=%d lent=%d links=%s memory=%s map=%s" % (
         r.words,
         r.in_use,
         r.committed,
@@ -33,6 +40,7 @@ def whole_state(heap):
         heap.lent,
         "".join("%d/%d," % pair for pair in zip(r.prev, r.next)),
         "".join("%x," % word for word in heap.memory),
+        map_shown(heap),
     )
 
 

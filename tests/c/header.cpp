@@ -14,5 +14,9 @@ int main()
         return 1;
     if (lischemur_audit(record, memory.heap, 33) != 1 || lischemur_high_water(record) != 16)
         return 1;
+    static char room[LISCHEMUR_MAP_ROOM(33)];
+    lischemur_reply map = lischemur_write_map(record, memory.heap, 33, room, sizeof room);
+    if (map.number != LISCHEMUR_DONE || map.value != 2 || room[2 * LISCHEMUR_MAP_LINE - 1] != '\n')
+        return 1;
     return static_cast<int>(lischemur_take_back(&record, memory.heap, 33, r.value).number);
 }

@@ -3,9 +3,10 @@
  *
  *     trace [--words N] [--fill SEED] [--marks STACKLETS] < lines
  *
- * A frame gets its answer line and then the whole state: the record and all words as they are, no link named. The options
- * mean what docs/ORACLE.md says of the harness's. A line that begins with ! does damage: `!NAME INDEX VALUE` writes a word or a
- * field, as `!memory 3 16`, `!prev 0 7`, `!peak 0 80`, or lends another count of words, `!lent 0 35`; it gets no line.
+ * A frame gets its answer line and then the whole state: the record and all words as they are, no link named, and the map,
+ * whose lines end in commas. The options mean what docs/ORACLE.md says of the harness's. A line that begins with ! does
+ * damage: `!NAME INDEX VALUE` writes a word or a field, as `!memory 3 16`, `!prev 0 7`, `!peak 0 80`, or lends another count
+ * of words, `!lent 0 35`; it gets no line.
  */
 #include "lischemur.h"
 
@@ -48,6 +49,36 @@ static void say(lischemur_reply r)
     printf("%02" PRIX32 "%08" PRIX32 "%08" PRIX32 "\n", r.number, r.value, r.compared);
 }
 
+/* Asks for the map in so many bytes, at most what suffices, and stops if a byte that is no line's has changed. */
+static char room[LISCHEMUR_MAP_ROOM(MOST) + 1];
+
+static lischemur_reply map_in(uint32_t bytes)
+{
+    size_t whole = LISCHEMUR_MAP_ROOM(words) + 1;
+    memset(room, ' ', whole);
+    lischemur_reply r = lischemur_write_map(record, heap, lent, room, bytes);
+    for (size_t k = LISCHEMUR_MAP_LINE * r.value; k < whole; k++)
+        if (room[k] != ' ')
+            exit(4);
+    return r;
+}
+
+/* Writes the map, or the three numbers that refuse it. Room that just suffices is enough, and a byte less is not. */
+static void show_map(void)
+{
+    lischemur_reply r = map_in(LISCHEMUR_MAP_ROOM(words));
+    uint32_t bytes = LISCHEMUR_MAP_LINE * r.value;
+    if (r.number != LISCHEMUR_DONE) {
+        printf(" map=%" PRIu32 "/%" PRIu32 "/%" PRIu32, r.number, r.value, r.compared);
+        return;
+    }
+    if (map_in(bytes - 1).number != LISCHEMUR_NO_ROOM || map_in(bytes).number != LISCHEMUR_DONE)
+        exit(4);
+    printf(" map=");
+    for (uint32_t k = 0; k < bytes; k++)
+        putchar(room[k] == '\n' ? ',' : room[k]);
+}
+
 /* Writes the whole state on one line, and stops if a word outside the memory has changed. */
 static void show(void)
 {
@@ -62,6 +93,7 @@ static void show(void)
     printf(" memory=");
     for (uint32_t w = 0; w < words; w++)
         printf("%" PRIx32 ",", heap[w]);
+    show_map();
     printf("\n");
 }
 

@@ -105,6 +105,8 @@ fn numbers(checks: &mut Checks) {
             number,
         );
     }
+    let no_room = Refusal::NoRoom.number();
+    checks.equal(format_args!("number of a short room"), no_room, 6);
     for number in (7..1000).chain([u32::MAX]) {
         let meant = Refusal::of_number(number);
         let wanted = Err(Refusal::Unknown(number));
@@ -129,6 +131,8 @@ fn records(checks: &mut Checks) {
     );
     let freed = heap.take_back(Offset(4));
     checks.equal(format_args!("free"), freed, Err(Refusal::Damaged));
+    let map = heap.write_map(&mut []);
+    checks.equal(format_args!("map"), map, Err(Refusal::Damaged));
     checks.equal(
         format_args!("after refusals"),
         state(&heap, 33),

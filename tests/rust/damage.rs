@@ -3,7 +3,7 @@
 
 use crate::checks::{set_word, state, word, Checks, Numbers};
 use crate::sound::sound;
-use lischemur::{Heap, Memory, Offset, Record, Refusal, MOST_SIZE};
+use lischemur::{map_room, Heap, Memory, Offset, Record, Refusal, MOST_SIZE};
 
 /// How many heaps are damaged at random.
 const ROUNDS: u64 = 40_000;
@@ -74,6 +74,9 @@ fn judged(checks: &mut Checks, heap: &mut Heap, live: &[Offset], numbers: &mut N
     }
     frees.push(heap.free(std::ptr::NonNull::dangling()));
     unchanged("a free of a pointer that is outside", heap);
+    let mut room = [b'~'; map_room(WORDS as usize)];
+    let map = heap.write_map(&mut room).map(<[u8]>::to_vec);
+    unchanged("a map", heap);
     let zero = heap.hand_out(0);
     let large = heap.hand_out(MOST_SIZE + 1);
     unchanged("sizes that are refused first", heap);
@@ -81,6 +84,9 @@ fn judged(checks: &mut Checks, heap: &mut Heap, live: &[Offset], numbers: &mut N
     for freed in frees {
         checks.equal(format_args!("free"), freed, Err(Refusal::Damaged));
     }
+    checks.equal(format_args!("map"), map, Err(Refusal::Damaged));
+    let kept = room.iter().all(|byte| *byte == b'~');
+    checks.holds(format_args!("the map's room"), kept);
     checks.equal(format_args!("size zero"), zero, Err(Refusal::ZeroSize));
     checks.equal(format_args!("a large size"), large, Err(Refusal::TooLarge));
     false

@@ -1,8 +1,10 @@
 //! Fixed checks: the rules' whole run and their entries reckoned by hand, the incident, the figures after
-//! each kind of call, frees that must be refused, and pointers.
+//! each kind of call, frees that must be refused, pointers, and maps.
 
 use crate::checks::{figures, set_word, state, word, Checks};
-use lischemur::{accepted, Heap, Memory, Offset, Record, Refusal, MOST_SIZE, MOST_WORDS};
+use lischemur::{
+    accepted, map_room, Heap, Memory, Offset, Record, Refusal, MAP_LINE, MOST_SIZE, MOST_WORDS,
+};
 use std::ptr::NonNull;
 
 /// The rules' whole run: a frame, and the answer line to it.
@@ -268,15 +270,77 @@ fn pointers(checks: &mut Checks) {
     checks.equal(format_args!("handout"), heap.hand_out(13), Ok(Offset(4)));
 }
 
+/// The map of a heap after each of a few frames.
+const MAPS: [(&str, &str); 7] = [
+    ("0000000021", "100000000000000080\n"),
+    ("010000000C", "110000000000000010\n100000001000000070\n"),
+    (
+        "010000000C",
+        "110000000000000010\n110000001000000010\n100000002000000060\n",
+    ),
+    (
+        "010000000C",
+        "110000000000000010\n110000001000000010\n110000002000000010\n100000003000000050\n",
+    ),
+    (
+        "0200000004",
+        "120000000000000010\n110000001000000010\n110000002000000010\n100000003000000050\n",
+    ),
+    (
+        "0200000024",
+        "100000000000000010\n110000001000000010\n120000002000000010\n100000003000000050\n",
+    ),
+    (
+        "0200000014",
+        "100000000000000010\n120000001000000010\n100000002000000060\n",
+    ),
+];
+
+/// Maps in room of every length, which keeps what no line takes.
+fn maps(checks: &mut Checks) {
+    let mut memory = Memory::<33>::new();
+    let mut heap = Heap::over(Record::EMPTY, memory.words());
+    for (frame, lines) in MAPS {
+        answer_line(&mut heap, frame);
+        let before = state(&heap, 33);
+        for len in 0..=map_room(33) {
+            let mut room = vec![b'~'; len];
+            let got = heap.write_map(&mut room).map(<[u8]>::to_vec);
+            let fits = lines.len() <= len;
+            let wanted = if fits {
+                Ok(lines.into())
+            } else {
+                Err(Refusal::NoRoom)
+            };
+            checks.equal(format_args!("map after {frame}, in {len}"), got, wanted);
+            let kept = if fits { &room[lines.len()..] } else { &room };
+            checks.holds(
+                format_args!("its room"),
+                kept.iter().all(|byte| *byte == b'~'),
+            );
+        }
+        checks.equal(format_args!("after the map"), state(&heap, 33), before);
+    }
+
+    // as many chunks as words allow
+    let mut lent = vec![0; 1001];
+    let mut heap = Heap::make(&mut lent).expect("an accepted length");
+    while heap.hand_out(12).is_ok() {}
+    let mut room = vec![0; map_room(1001)];
+    let lines = heap.write_map(&mut room).map(|map| map.len() / MAP_LINE);
+    checks.equal(format_args!("lines of the longest map"), lines, Ok(250));
+}
+
 /// Run all.
 pub fn run(checks: &mut Checks) {
-    let parts: [(&str, fn(&mut Checks)); 6] = [
+    let parts: [(&str, fn(&mut Checks)); 7] = [
         ("whole run", whole_run),
         ("incident", incident),
         ("entries reckoned by hand", entries),
         ("in use and committed", both_figures),
         ("refused frees", frees),
         ("pointers", pointers),
+        ("maps", maps),
     ];
     for (name, part) in parts {
         checks.begin(name.into());

@@ -1,13 +1,14 @@
 //! Random histories, side by side with Hopter's heap.rs in the same process.
 //!
 //! After each request answer, offset, compared count, counters, cached chunk, the sentinels' links and
-//! every tag of the tiling are equal, links by the chunk or sentinel that they name. Inside the
+//! every tag of the tiling are equal, links by the chunk or sentinel that they name, and the map has a line
+//! for each chunk of the Rust's. Inside the
 //! compared domain (lengths up to 65,527, sizes up to 4,294,967,284, frees of live payloads) the Rust is
 //! asked; a request outside it must be refused by name and change nothing. Tasks find their payloads
 //! empty, which the Rust's need not be, write all over them, and find them as they left them.
 
 use crate::checks::{set_word, word, Checks, Numbers};
-use lischemur::{Heap, Memory, Offset, Refusal, MOST_SIZE};
+use lischemur::{map_room, Heap, Memory, Offset, Refusal, MOST_SIZE};
 use oracle::{Name, Oracle, MOST_WORDS};
 use std::collections::BTreeMap;
 
@@ -52,6 +53,7 @@ impl Pair<'_> {
             checks.holds(format_args!("sentinel {class}'s links"), held);
         }
         let mut at = 0;
+        let mut lines = String::new();
         while at < oracle.words() {
             let header = word(heap, at);
             checks.equal(format_args!("header at word {at}"), header, oracle.word(at));
@@ -64,8 +66,19 @@ impl Pair<'_> {
                 let foot = at + len - 1;
                 checks.equal(format_args!("footer"), word(heap, foot), oracle.word(foot));
             }
+            let kind = match header & 2 {
+                0 => 10,
+                _ if cached == Some(4 * at) => 12,
+                _ => 11,
+            };
+            if len > 0 {
+                lines += &format!("{kind}{:08X}{:08X}\n", 4 * at, 4 * len);
+            }
             at += len.max(1);
         }
+        let mut room = vec![0; map_room(oracle.words() as usize)];
+        let map = heap.write_map(&mut room);
+        checks.equal(format_args!("map"), map, Ok(lines.as_bytes()));
     }
 
     /// Write a word of a payload, or of memory before a heap is made, on both sides.

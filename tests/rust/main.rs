@@ -4,7 +4,7 @@
 //! ```text
 //! checks      counting, failing, and numbers that look random
 //! crossing    the record's layout, answer numbers, the mark
-//! fixed       the rules' whole run and entries, the incident, refused frees, pointers
+//! fixed       the rules' whole run and entries, the incident, refused frees, pointers, maps
 //! arrival     a key left in a payload: found in Hopter's heap.rs, not here
 //! sound       the rules' soundness, written again
 //! damage      damaged heaps: refused, and nothing changed

@@ -57,7 +57,7 @@ impl Default for Record {
 pub(crate) struct Reply {
     /// 0 done, else the refusal's number.
     pub(crate) number: u32,
-    /// The payload's offset for a handout that is done, else 0.
+    /// The payload's offset for a handout that is done, how many lines for a map that is, else 0.
     pub(crate) value: u32,
     /// How many free chunks were compared.
     pub(crate) compared: u32,
@@ -116,6 +116,14 @@ extern "C" {
     ) -> Reply;
     /// Whether the record and these words are sound: 1 or 0.
     pub(crate) fn lischemur_audit(rec: Record, heap: *const u32, len: usize) -> u32;
+    /// Write the heap's map at the start of the room, a line for each chunk.
+    pub(crate) fn lischemur_write_map(
+        rec: Record,
+        heap: *const u32,
+        len: usize,
+        room: *mut u8,
+        room_len: usize,
+    ) -> Reply;
     /// The mark, if high water has risen, and the record with its flag off.
     pub(crate) fn lischemur_mark(rec: Record, stacklets: u32) -> Marking;
     /// What tasks hold.

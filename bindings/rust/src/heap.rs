@@ -17,6 +17,14 @@ pub struct Offset(pub u32);
 /// An offset where no payload starts, for a pointer that is outside: a header stands at byte 0.
 const NOWHERE: Offset = Offset(0);
 
+/// The bytes of a map's line.
+pub const MAP_LINE: usize = 19;
+
+/// The bytes of room that suffices for the map of any heap of so many words.
+pub const fn map_room(words: usize) -> usize {
+    words.saturating_sub(1) / 4 * MAP_LINE
+}
+
 /// A heap over words that are lent to it for `'a`.
 ///
 /// No call locks anything: see the [crate's text](crate).
@@ -145,6 +153,42 @@ impl<'a> Heap<'a> {
         // SAFETY: start and length are those of words borrowed for `'a`, which are only read.
         let sound = unsafe { door::lischemur_audit(self.record, self.start.as_ptr(), self.len) };
         sound == 1
+    }
+
+    /// Write the heap's map at the start of the room, and give what was written: a line of [`MAP_LINE`]
+    /// bytes for each chunk, left to right. `Damaged` and `NoRoom` are tested in this order; the rest of
+    /// the room, and after a refusal all of it, keeps its bytes.
+    ///
+    /// A line has two digits of kind (10 free, 11 live, 12 cached), eight of the header's offset and eight
+    /// of the chunk's length, hexadecimal in upper case, and a line feed.
+    ///
+    /// ```
+    /// use lischemur::{map_room, Heap, Memory, Refusal};
+    ///
+    /// let mut memory = Memory::<33>::new();
+    /// let mut heap = Heap::make(memory.words())?;
+    /// heap.hand_out(12)?;
+    /// let mut room = [0; map_room(33)];
+    /// assert_eq!(heap.write_map(&mut room)?, b"110000000000000010\n100000001000000070\n");
+    /// assert_eq!(heap.write_map(&mut room[..37]), Err(Refusal::NoRoom));
+    /// # Ok::<(), Refusal>(())
+    /// ```
+    pub fn write_map<'r>(&self, room: &'r mut [u8]) -> Result<&'r [u8], Refusal> {
+        // SAFETY: as in `audit`; the room is borrowed here, and the archive's function accepts any.
+        let reply = unsafe {
+            door::lischemur_write_map(
+                self.record,
+                self.start.as_ptr(),
+                self.len,
+                room.as_mut_ptr(),
+                room.len(),
+            )
+        };
+        match Refusal::of_number(reply.number) {
+            Ok(()) => Ok(&room[..MAP_LINE * reply.value as usize]),
+            Err(Refusal::BadLength) => Err(Refusal::NoRoom),
+            Err(refusal) => Err(refusal),
+        }
     }
 
     /// If high water has risen since the mark was last read: high water less 108 bytes a stacklet,

@@ -45,7 +45,7 @@ mod memory;
 mod refusal;
 
 pub use door::Record;
-pub use heap::{Heap, Offset};
+pub use heap::{map_room, Heap, Offset, MAP_LINE};
 #[cfg(target_has_atomic = "8")]
 pub use memory::StaticMemory;
 pub use memory::{accepted, Memory, LEAST_WORDS, MOST_WORDS};

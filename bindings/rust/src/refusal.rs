@@ -20,14 +20,16 @@ pub enum Refusal {
     NotLive,
     /// Answer 5: the record and the words are no sound heap.
     Damaged,
-    /// Answer 6: the length is no odd count of words from 5 to 65,529.
+    /// Answer 6 at making: the length is no odd count of words from 5 to 65,529.
     BadLength,
+    /// Answer 6 to a map: the room is too short.
+    NoRoom,
     /// A number that the archive does not give: 7, which is for traces, or above.
     Unknown(u32),
 }
 
 impl Refusal {
-    /// What an answer number says; any number has a meaning here.
+    /// What an answer number says; any number has a meaning here. 6 is making's.
     pub const fn of_number(number: u32) -> Result<(), Refusal> {
         match number {
             0 => Ok(()),
@@ -49,7 +51,7 @@ impl Refusal {
             Refusal::NoFit => 3,
             Refusal::NotLive => 4,
             Refusal::Damaged => 5,
-            Refusal::BadLength => 6,
+            Refusal::BadLength | Refusal::NoRoom => 6,
             Refusal::Unknown(number) => number,
         }
     }
@@ -64,6 +66,7 @@ impl fmt::Display for Refusal {
             Refusal::NotLive => out.write_str("no live payload starts there"),
             Refusal::Damaged => out.write_str("the heap is damaged"),
             Refusal::BadLength => out.write_str("a heap cannot have so many words"),
+            Refusal::NoRoom => out.write_str("the map is longer than the room"),
             Refusal::Unknown(number) => write!(out, "answer number {number} is unknown"),
         }
     }

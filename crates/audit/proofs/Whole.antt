@@ -10,13 +10,14 @@ use Rattle.audit.specs.declared.Figures.{Figures}
 use Rattle.audit.specs.declared.tiling.Tally.{Tally}
 use Rattle.audit.specs.declared.rings.Followed.the-variants.{Long}
 use Rattle.audit.specs.Layout.{usedSum, usedEnd}
-use Rattle.audit.specs.Walk.{Broken, tiledBy, tallied, heldAt, cachedWord, cacheRightᵇ, FiguresFit}
+use Rattle.audit.specs.Walk.{Broken, tiledBy, tallied, heldAt, firstFree, cachedWord, cacheRightᵇ, FiguresFit}
 use Rattle.audit.specs.Rings.{count, nextOf, listOf, AreRings}
 use Rattle.audit.specs.Window.{Ringed, Listed}
 use Rattle.audit.proofs.tiling.Walks.{Found, broken-not-whole, tiled-sound, tiled-complete}
 use Rattle.audit.proofs.tiling.Tallies.{tally-whole, tally-many}
 use Rattle.audit.proofs.Sound.{SoundPair}
-use Rattle.audit.proofs.Listed.{ring-inside, list-right, right-ring, right-listed}
+use Rattle.audit.proofs.windows.Steps.{Opened, opened-first}
+use Rattle.audit.proofs.Listed.{ring-inside, ring-onward, list-right, right-ring, right-listed}
 use Rattle.audit.proofs.Cached.{cache-sound, cache-complete}
 
 module _ (prev next : List Link) (f : Figures) (ws : List ℕ) where
@@ -29,7 +30,7 @@ module _ (prev next : List Link) (f : Figures) (ws : List ℕ) where
   cache-of z = cache-complete ws (z .layout) (z .tiles) (f .cached .0) (z .cached)
 
   -- with the tally of a walk that ended at the guard
-  module _ (t : Tally) (a : (c : ℕ) → c < 6 → tiledBy ws c ≡ tallied t c) (e : t .whole ≡ true) where
+  module _ (t : Tally) (a : (c : ℕ) → c < 6 → tiledBy ws c ≡ tallied t c) (e : t .whole ≡ true) (first : t .first ≡ firstFree ws) where
     -- what is held at the cached chunk's word
     abbrev held : ℕ
     held = heldAt ws (cachedWord (length ws) (f .cached .0))
@@ -37,6 +38,10 @@ module _ (prev next : List Link) (f : Figures) (ws : List ℕ) where
     -- the layout that the walk found
     found : Found ws 0 0 true 0 0 0 (t .sum) (t .top) (getD (t .frees) 0 0)
     found = tiled-sound ws 0 _ _ _ (tally-whole ws t a e 0 (omega arith))
+
+    -- its first free chunk
+    opened : Opened ws (t .first)
+    opened = subst (λ (k : ℕ). Opened ws k) (sym first) (opened-first ws (found .layout) (found .tiles))
 
     -- the figures of a sound pair fit the tally
     pub figures-of : SoundPair prev next f ws → FiguresFit f (length ws) (t .sum) held (t .top)
@@ -47,20 +52,25 @@ module _ (prev next : List Link) (f : Figures) (ws : List ℕ) where
         subst₂ (λ (j k : ℕ). FiguresFit f (length ws) j held k) x y (z .figures)
 
     -- its lists are rings of the lengths that were counted
-    pub rings-of : SoundPair prev next f ws → AreRings prev next ws (t .frees)
+    pub rings-of : SoundPair prev next f ws → AreRings prev next ws (t .first) (t .frees)
     rings-of z c i =
-        right-ring ws (z .layout) (z .tiles) c prev next i (z .lists c i) ∙ ap Long (sym (tally-many ws t a e (z .layout) (z .tiles) c i))
+        right-ring ws (z .layout) (z .tiles) c prev next (t .first) i (z .lists c i) opened ∙ ap Long (sym (tally-many ws t a e (z .layout) (z .tiles) c i))
 
     -- and hold free chunks of their classes
     pub listed-of : SoundPair prev next f ws → Listed next ws (t .frees)
     listed-of z c i x k =
-        right-listed ws (z .layout) (z .tiles) c prev next i (z .lists c i) x
+        right-listed ws (z .layout) (z .tiles) c prev next (t .first) i (z .lists c i) x
         (subst (λ (n : ℕ). 0 < count x (listOf (nextOf next ws) n c)) (tally-many ws t a e (z .layout) (z .tiles) c i) k)
 
-    module _ (r : AreRings prev next ws (t .frees)) where
+    module _ (r : AreRings prev next ws (t .first) (t .frees)) where
       -- rings of those lengths are what `lists_right` asks for
-      pub ringed-of : Ringed next ws (t .frees)
-      ringed-of = record { layout = found .layout; tiles = found .tiles; inside = (λ c i x k. ring-inside prev next ws c (getD (t .frees) c 0) (r c i) x k) }
+      pub ringed-of : Ringed next ws (t .first) (t .frees)
+      ringed-of =
+          record {
+            standing = opened .standing;
+            inside = (λ c i x k. ring-inside prev next ws (t .first) c (getD (t .frees) c 0) (r c i) x k);
+            onward = (λ c i x k. ring-onward prev next ws (t .first) c (getD (t .frees) c 0) (r c i) x k);
+          }
 
       -- WHERE ALL TESTS HOLD, the pair is sound
       pub sound-of : FiguresFit f (length ws) (t .sum) held (t .top) → cacheRightᵇ ws (f .cached .0) ≡ true → Listed next ws (t .frees) → SoundPair prev next f ws
@@ -70,7 +80,7 @@ module _ (prev next : List Link) (f : Figures) (ws : List ℕ) where
           record {
             layout = cs;
             tiles = found .tiles;
-            lists = (λ c i. list-right ws cs (found .tiles) c prev next i (getD (t .frees) c 0) (tally-many ws t a e cs (found .tiles) c i) (r c i) (l c i));
+            lists = (λ c i. list-right ws cs (found .tiles) c prev next (t .first) i (getD (t .frees) c 0) (tally-many ws t a e cs (found .tiles) c i) (r c i) (l c i));
             cached = cache-sound ws cs (found .tiles) (f .cached .0) k;
             figures = subst₂ (λ (j h : ℕ). FiguresFit f (length ws) j held h) x (found .topIs) g;
           }

@@ -3,3 +3,4 @@ pub mod Walks
 pub mod Places
 pub mod Finds
 pub mod Tallies
+pub mod Firsts

@@ -2,7 +2,7 @@
 use Prim.Native.Nat.{ℕ, zero, suc, _+_, _-_, _*_, _/_, _%_, _≤_}
 use mathlib.Core.Path.{_≡_}
 use mathlib.Core.List.{List, [], _∷_}
-use mathlib.Core.Bool.{Bool, true, false, not}
+use mathlib.Core.Bool.{Bool, true, not}
 use lib.ListN.{length, getD}
 use lib.Dec.{ltb, leb, eqb}
 use Rattle.words.specs.Choice.{bit}
@@ -13,7 +13,7 @@ use Rattle.audit.specs.declared.tiling.Seen.the-variants.{Bad, Free, Use
 use Rattle.audit.specs.declared.tiling.Tally.{Tally}
 use Rattle.audit.specs.Layout.{pick, Chunk, free, used}
 
--- the length in a header h whose third bit is clear
+-- the length in a header h
 abbrev pub bytes : ℕ → ℕ
 bytes h = h / 8 * 8
 
@@ -21,15 +21,14 @@ bytes h = h / 8 * 8
 unfoldable pub seenAt : List ℕ → ℕ → ℕ → Seen
 seenAt ws at left =
     pick (ltb at (length ws))
-    (pick (ltb (getD ws at 0 % 8) 4)
     (pick (leb 16 (getD ws at 0))
-    (pick (eqb (getD ws at 0 % 2) left)
     (pick (ltb (bytes (getD ws at 0) / 4) (length ws - at))
-    (pick (leb 2 (getD ws at 0 % 4))
+    (pick (eqb (getD ws at 0 % 8) (2 + left))
     (Used (bytes (getD ws at 0)))
     (pick (not (eqb left 0))
+    (pick (eqb (getD ws at 0 % 8) 1)
     (pick (eqb (getD ws (at + bytes (getD ws at 0) / 4 - 1) 0) (bytes (getD ws at 0)))
-    (Free (bytes (getD ws at 0))) Bad) Bad)) Bad) Bad) Bad) Bad) Bad
+    (Free (bytes (getD ws at 0))) Bad) Bad) Bad)) Bad) Bad) Bad
 
 -- THE WHOLE WALK: broken, or the sum of used lengths, the end of the last used chunk, and how many free chunks are of a class
 pub data Tiled : Type 0 where
@@ -91,6 +90,21 @@ lengthSeen (Used n) = n
 -- of the chunk whose header is word w
 unfoldable pub heldAt : List ℕ → ℕ → ℕ
 heldAt ws w = lengthSeen (chunkOf ws w)
+
+-- THE FIRST FREE CHUNK: past a used chunk the search goes on; it ends at a free one, or at the guard
+unfoldable pub pastUsed : (ℕ → ℕ) → ℕ → Seen → ℕ
+pastUsed go at Bad = at
+pastUsed go at (Free n) = at
+pastUsed go at (Used n) = go (at + n / 4)
+
+-- its word, from word `at` on, in at most so many turns
+unfoldable pub firstFrom : ℕ → List ℕ → ℕ → ℕ
+firstFrom zero ws at = at
+firstFrom (suc f) ws at = pastUsed (firstFrom f ws) at (seenAt ws at 1)
+
+-- its word; the guard's where no chunk is free
+unfoldable pub firstFree : List ℕ → ℕ
+firstFree ws = firstFrom (length ws) ws 0
 
 -- THE CACHED CHUNK by its link l. Its word among n, which is no header's where the link names no chunk
 unfoldable pub cachedWord : ℕ → ℕ → ℕ

@@ -1,7 +1,7 @@
 // The audit: whether a record and its words are sound (document 01, "Sound"), the test that answer 5 goes by. It reads any record and any words.
 //
-// What it costs: the tiling is walked twice, with all tests and then with one; each class list is followed once both ways, and once more for each
-// window of 2,048 words. A list of none costs two reads. The stack holds 128 bytes of marks beside the locals, whatever the length.
+// What it costs: the tiling is walked with all tests, and from the first free chunk on once more with one; each class list is followed once both
+// ways, and once more for each window of 2,048 words. A list of none costs two reads. The stack holds 128 bytes of marks beside the locals, whatever the length.
 //
 //     tiling    chunks, from one header to the next
 //     rings     the class lists as mirrored rings
@@ -118,10 +118,11 @@ pub fn audit(prev: [Link; 6], next: [Link; 6], figures: Figures, heap: &[u32]) -
     if !cache {
         return false;
     }
+    let first = t.first;
     let frees = t.frees;
-    let rings = rings_right(prev, next, heap, frees);
+    let rings = rings_right(prev, next, heap, first, frees);
     if !rings {
         return false;
     }
-    lists_right(next, heap, frees)
+    lists_right(next, heap, first, frees)
 }

@@ -4,11 +4,11 @@
 // seen is a layout of specs/Layout.antt, and each layout is seen (proofs/tiling/).
 ghost use mathlib.Core.Path.{_≡_};
 ghost use mathlib.Core.Bool.{true, false};
-ghost use lib.Dec.{eqb};
+ghost use lib.Dec.{eqb, ltb};
 ghost use Prim.Native.Nat.{ℕ, _<_};
 ghost use Rattle.audit.specs.declared.tiling.Seen.the-variants.{Bad};
 ghost use Rattle.audit.specs.Layout.{pick};
-ghost use Rattle.audit.specs.Walk.{seenAt, tiledBy, tallied, heldAt};
+ghost use Rattle.audit.specs.Walk.{seenAt, tiledBy, tallied, heldAt, firstFree};
 
 // What stands at a word of the tiling: nothing legal, or a chunk of so many bytes.
 pub(crate) enum Seen {
@@ -27,25 +27,23 @@ pub(crate) struct Tally {
     pub(crate) top: usize,
     // The length of the used chunk at the word that was asked for; 0 where none is there.
     pub(crate) held: usize,
+    // The word of the first free chunk; the guard's where there is none.
+    pub(crate) first: usize,
     // How many free chunks each class has.
     pub(crate) frees: [usize; 6],
 }
 
-// The chunk whose header is word `at`.
+// The chunk whose header is word `at`. The low three bits of a used chunk's header are 2 and its left bit; a free one's are 1, for its left
+// neighbour is used.
 fn seen_at(heap: &[u32], at: usize, left: u32) -> Seen
+    requires { ⌜ left < 2 ⌝ }
     ensures { λ r. ⌜ r ≡ seenAt (now (heap .entry)) at left ⌝ }
 {
     if heap.len() <= at {
         return Seen::Bad;
     }
     let h = heap[at];
-    if 4 <= h % 8 {
-        return Seen::Bad;
-    }
     if h < 16 {
-        return Seen::Bad;
-    }
-    if h % 2 != left {
         return Seen::Bad;
     }
     let len = h / 8 * 8;
@@ -53,10 +51,13 @@ fn seen_at(heap: &[u32], at: usize, left: u32) -> Seen
     if heap.len() - at <= span {
         return Seen::Bad;
     }
-    if 2 <= h % 4 {
+    if h % 8 == 2 + left {
         return Seen::Used(len);
     }
     if left == 0 {
+        return Seen::Bad;
+    }
+    if h % 8 != 1 {
         return Seen::Bad;
     }
     if heap[at + span - 1] != len {
@@ -72,7 +73,7 @@ pub(crate) fn known_at(heap: &[u32], at: usize, left: u32) -> Seen
 {
     let h = heap[at];
     let len = h / 8 * 8;
-    if 2 <= h % 4 {
+    if 2 <= h % 8 {
         return Seen::Used(len);
     }
     Seen::Free(len)
@@ -87,6 +88,7 @@ fn no_tiling() -> Tally
         sum: 0,
         top: 0,
         held: 0,
+        first: 0,
         frees: [0; 6],
     }
 }
@@ -98,9 +100,16 @@ fn hold(held: usize, at: usize, w: usize, n: usize) -> usize
     if at == w { n } else { held }
 }
 
-// Whether chunks tile the words up to the guard, with the sums, what is held at word w, and the number of free chunks of each class.
+// The lower of two words.
+fn lower(a: usize, b: usize) -> usize
+    ensures { λ r. ⌜ r ≡ pick (ltb b a) b a ⌝ }
+{
+    if b < a { b } else { a }
+}
+
+// Whether chunks tile the words up to the guard, with the sums, what is held at word w, the first free chunk, and how many free ones each class has.
 pub(crate) fn count_chunks(heap: &[u32], w: usize) -> Tally
-    ensures { λ r. ⌜ ((c : ℕ) → c < 6 → tiledBy (now (heap .entry)) c ≡ tallied r c) × (r .whole ≡ true → r .held ≡ heldAt (now (heap .entry)) w) ⌝ }
+    ensures { λ r. ⌜ ((c : ℕ) → c < 6 → tiledBy (now (heap .entry)) c ≡ tallied r c) × (r .whole ≡ true → (r .held ≡ heldAt (now (heap .entry)) w) × (r .first ≡ firstFree (now (heap .entry)))) ⌝ }
 {
     let mut at: usize = 0;
     let mut left: u32 = 1;
@@ -111,6 +120,7 @@ pub(crate) fn count_chunks(heap: &[u32], w: usize) -> Tally
     if heap.len() == 0 {
         return no_tiling();
     }
+    let mut first: usize = heap.len() - 1;
     while at + 1 < heap.len() {
         let seen = seen_at(heap, at, left);
         match seen {
@@ -118,6 +128,7 @@ pub(crate) fn count_chunks(heap: &[u32], w: usize) -> Tally
             Seen::Free(len) => {
                 let class = words::chunk_size_to_list_index(len) as usize;
                 frees[class] = frees[class] + 1;
+                first = lower(first, at);
                 at = at + (len / 4) as usize;
                 left = 0;
             }
@@ -130,14 +141,13 @@ pub(crate) fn count_chunks(heap: &[u32], w: usize) -> Tally
             }
         }
     }
-    if heap[at] != 2 + left {
-        return no_tiling();
-    }
+    let whole = heap[at] == 2 + left;
     Tally {
-        whole: true,
-        sum: sum,
-        top: top,
-        held: held,
-        frees: frees,
+        whole,
+        sum,
+        top,
+        held,
+        first,
+        frees,
     }
 }

@@ -1,6 +1,6 @@
--- WHAT A CALLER IN C SEES: an answer as document 01's three numbers, a reply beside the state after the call as the rules' outcome, the mark in plain
--- numbers, and making over a record that is there.
-use Prim.Native.Nat.{ℕ}
+-- WHAT A CALLER IN C SEES: an answer of the heap or the map as document 01's three numbers, a reply beside what the call leaves as the rules' outcome, the
+-- mark in plain numbers, and making over a record that is there.
+use Prim.Native.Nat.{ℕ, _<_}
 use lib.Dec.{eqb}
 use lib.IntN.{pos}
 use lib.ListN.{length}
@@ -15,6 +15,8 @@ use Rattle.heap.specs.declared.record.Marked.{Marked}
 use Rattle.heap.specs.declared.calls.Answer.{Answer}
 use Rattle.heap.specs.declared.calls.Out.{Out}
 use Rattle.heap.specs.Answer.{number, value, compared}
+use Rattle.map.specs.declared.rows.Answer.{Answer as MapAnswer}
+use Rattle.map.specs.Answer.{number as mapNumber, value as mapValue}
 use Rattle.door.specs.declared.reply.Reply.{Reply}
 use Rattle.door.specs.declared.reply.Replied.{Replied}
 use Rattle.door.specs.declared.reply.Marking.{Marking}
@@ -31,8 +33,16 @@ replyOf a = threeOf (number a) (value a) (compared a)
 unfoldable pub inNumbers : Out → Replied
 inNumbers o = record { reply = replyOf (o .answer); rec = o .rec }
 
--- a reply beside the state after the call
-abbrev pub replied : Reply → State → Outcome State
+-- the three numbers of a map's answer; nothing is compared
+abbrev pub mapReply : MapAnswer → Reply
+mapReply a = threeOf (mapNumber a) (mapValue a) 0
+
+-- its count of chunks, or of lines, fits 32 bits
+abbrev pub Counted : MapAnswer → Type 0
+Counted a = mapValue a < 4294967296
+
+-- a reply beside what the call leaves: the state, or the room that was lent
+abbrev pub replied : {S : Type 0} → Reply → S → Outcome S
 replied r s = says (r .number) (r .value) (r .compared) s
 
 -- the mark in plain numbers, beside a record

@@ -1,9 +1,9 @@
 // The kernel's door: what firmware links (include/lischemur.h declares it for C).
 //
 // Making, handing out and taking back change a record where it lies; document 01 gives this door to no other call. The others take the
-// record by value, which on x86-64 is how C passes and gets back a struct of this size: the audit and the four readers leave it alone, and
-// the mark hands it back with its flag off. Each agrees with the call of crate `heap` that it stands for, and accepts any record, any words
-// and any number. A bool that C reads is a number here, 1 or 0.
+// record by value, which on x86-64 is how C passes and gets back a struct of this size: the audit, the map and the four readers leave it
+// alone, and the mark hands it back with its flag off. Each agrees with the call of crate `heap` or `map` that it stands for, and accepts
+// any record, any words, any room and any number. A bool that C reads is a number here, 1 or 0.
 //
 //     reply    an answer as document 01's three numbers
 //     plain    the calls by value that the doors go to
@@ -13,6 +13,7 @@ ghost use Rattle.rules.specs.Demands.{hand, back};
 ghost use Rattle.heap.specs.Seen.{seen, base};
 ghost use Rattle.heap.specs.Mark.{markOf};
 ghost use Rattle.heap.specs.Answer.{soundAt};
+ghost use Rattle.map.specs.Calls.{written};
 ghost use Rattle.door.specs.Reply.{replied, markingBy, makeOver};
 
 mod plain;
@@ -25,6 +26,7 @@ use plain::take_back_plain;
 pub use reply::Marking;
 pub use reply::Replied;
 pub use reply::Reply;
+use reply::map_reply;
 use reply::marking_of;
 
 // Makes a heap of the whole slice, which is to have `words` words. A 6 keeps the record.
@@ -64,6 +66,16 @@ pub extern "C" fn lischemur_audit(rec: Record, heap: &[u32]) -> u32
 {
     let sound = rec.audit(heap);
     if sound { 1 } else { 0 }
+}
+
+// Writes the heap's map at the start of the room, a line for each chunk, and replies how many: 5 if the heap is damaged, then 6 if the
+// room is too short.
+#[no_mangle]
+pub extern "C" fn lischemur_write_map(rec: Record, heap: &[u32], room: &mut [u8]) -> Reply
+    ensures { λ r. ⌜ replied r (now (room .exit)) ≡ written (seen rec (now (heap .entry))) (now (room .entry)) ⌝ }
+{
+    let answer = map::write_map(rec, heap, room);
+    map_reply(answer)
 }
 
 // The mark, if high water has risen, and the record with its flag off.

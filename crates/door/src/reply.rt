@@ -1,8 +1,8 @@
-// Replies: what the heap's answers are to a caller in C. No enum crosses the door, so an answer is document 01's three numbers.
+// Replies: what the heap's and the map's answers are to a caller in C. No enum crosses the door, so an answer is document 01's three numbers.
 //
 // Contracts cite specs/Reply.antt.
 ghost use mathlib.Core.Path.{_≡_};
-ghost use Rattle.door.specs.Reply.{threeOf, replyOf, inNumbers, markingOf};
+ghost use Rattle.door.specs.Reply.{threeOf, replyOf, inNumbers, mapReply, Counted, markingOf};
 use heap::Answer;
 use heap::Mark;
 use heap::Out;
@@ -11,9 +11,9 @@ use heap::Record;
 // Document 01's numbers of an answer.
 #[repr(C)]
 pub struct Reply {
-    // 0 done, 1 zero size, 2 too large, 3 no fit, 4 not live, 5 damaged, 6 bad length
+    // 0 done, 1 zero size, 2 too large, 3 no fit, 4 not live, 5 damaged, 6 bad length or room too short
     pub number: u32,
-    // the payload's offset for a handout that is done, else 0
+    // the payload's offset for a handout that is done, how many chunks have a line for a map that is, else 0
     pub value: u32,
     // how many free chunks were compared
     pub compared: u32,
@@ -72,6 +72,19 @@ pub(crate) fn in_numbers(out: Out) -> Replied
     Replied {
         reply: reply_of(answer),
         rec,
+    }
+}
+
+// The three numbers of a map's answer, whose count of chunks or of lines has to fit 32 bits.
+pub(crate) fn map_reply(a: map::Answer) -> Reply
+    requires { ⌜ Counted a ⌝ }
+    ensures { λ r. ⌜ r ≡ mapReply a ⌝ }
+{
+    match a {
+        map::Answer::Done(n) => Reply::of(0, n as u32, 0),
+        map::Answer::Damaged => Reply::of(5, 0, 0),
+        map::Answer::NoRoom => Reply::of(6, 0, 0),
+        map::Answer::BadLine(k) => Reply::of(7, k as u32, 0),
     }
 }
 

@@ -1,6 +1,8 @@
--- The laws of reads, of a text in a lent room, of a line and of the whole, and what is claimed of them. A reader starts at Exactly.
+-- The laws of what the contracts cite, and what is claimed: of the input in Exactly, of the output in Outcomes.
 pub mod GivenLaws
 pub mod Stored
 pub mod Taken
 pub mod Grown
 pub mod Exactly
+pub mod Waiting
+pub mod Outcomes

@@ -7,8 +7,9 @@
 //     put      an answer line, a number, bytes, lines into that buffer
 //
 // The buffers are the caller's. Every call is safe and ends, given that each read and write returns. No contract can say which bytes the system
-// gives; those of the input say what becomes of each of them (specs/Given.antt, specs/Taking.antt), and proofs/Exactly.antt that the same reads
-// give the same line and the same whole. Of the output nothing more is proved.
+// gives; of the input it is proved what becomes of each of them (specs/Taking.antt), and that the same reads give the same line and the same whole
+// (proofs/Exactly.antt). Of the output it is proved, for every call, how many bytes wait and which, and that a failure stays (specs/Waiting.antt);
+// not that what waits is written: no contract can say what the system does with it.
 mod get;
 mod input;
 mod output;

@@ -1,4 +1,3 @@
--- THE LAWS OF READING: one line, all lines, and their rows laid into the room.
-pub mod OneLine
+-- THE READER'S LOOPS: all lines tried, and their rows laid into the room.
 pub mod AllLines
 pub mod Laid

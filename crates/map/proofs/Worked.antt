@@ -23,8 +23,8 @@ use Rattle.rules.specs.Runs.{call}
 use Rattle.rules.specs.Table.{base, made, after}
 use Rattle.map.specs.Rows.{row, linesOf, wordsOf}
 use Rattle.map.specs.Layout.{mapOf}
-use Rattle.map.specs.Reading.{rowIn, followsᵇ, Read, rows, bad, lineRead, readFrom, readAll}
-use Rattle.map.specs.Calls.{laid, rowsOf, written, readInto}
+use Rattle.map.specs.Reading.{rowIn, standsᵇ, followsᵇ, Read, rows, bad, lineRead, readFrom, readAll}
+use Rattle.map.specs.Calls.{over, laid, rowsOf, written, readInto}
 
 -- the bytes of a text
 abbrev bytes : String → List ℕ
@@ -47,7 +47,7 @@ wornMap = "110000000000000018\n100000001800000010\n120000002800000038\n100000006
 pub worn-written :
     written worn (replicate 80 255) ∷ written worn (replicate 75 255) ∷ []
     ≡ says 0 4 0 (bytes wornMap ++ replicate 4 255) ∷ says 6 0 0 (replicate 75 255) ∷ []
-unfolding written laid rowsOf mapOf linesOf answerBytes digitsOf byteOf
+unfolding written laid over rowsOf mapOf linesOf answerBytes digitsOf byteOf
     call handOut takeBack live choose listed make serve fromCache fromList firstFit settled link unlink setLeft clearLeft markFree markUsed oneChunk
     returnExcess takeChunk emptied cleared leftFree rightFree merge merged releaseChunk setLinkAt classOf findWalk searchAll usedWalk usedAt soundᵇ showsᵇ candidate
     legalᵇ calmᵇ tagsᵇ segᵇ belowᵇ everyᵇ slotᵇ exactᵇ distinctᵇ underᵇ cacheᵇ figuresᵇ tile walk frees
@@ -55,12 +55,12 @@ worn-written = refl
 
 -- it is read, into words
 pub worn-read : readInto (read wornMap) (replicate 13 7) ≡ says 0 4 0 (17 ∷ 0 ∷ 24 ∷ 16 ∷ 24 ∷ 16 ∷ 18 ∷ 40 ∷ 56 ∷ 16 ∷ 96 ∷ 32 ∷ 7 ∷ [])
-unfolding readAll readFrom lineRead rowIn followsᵇ digitOf laid wordsOf
+unfolding readAll readFrom lineRead rowIn standsᵇ followsᵇ digitOf laid over wordsOf
 worn-read = refl
 
 -- the longest heap and the shortest are read
 pub longest-shortest : map read ("10000000000003FFE0\n" ∷ "110000000000000010\n" ∷ []) ≡ rows (row 16 0 262112 ∷ []) ∷ rows (row 17 0 16 ∷ []) ∷ []
-unfolding readAll readFrom lineRead rowIn followsᵇ digitOf
+unfolding readAll readFrom lineRead rowIn standsᵇ followsᵇ digitOf
 longest-shortest = refl
 
 -- refused in line 1: nothing, an empty line, no line feed, a carriage return, lower case, kinds 0F and 13, an offset, lengths 8, 20 and one too long
@@ -69,7 +69,7 @@ pub bad-first :
     ("" ∷ "\n" ∷ "110000000000000018" ∷ "110000000000000018\r\n" ∷ "10000000000003ffe0\n" ∷ "0F0000000000000018\n" ∷ "130000000000000018\n"
     ∷ "110000000800000018\n" ∷ "110000000000000008\n" ∷ "110000000000000014\n" ∷ "10000000000003FFE8\n" ∷ [])
     ≡ replicate 11 (bad 1)
-unfolding readAll readFrom lineRead rowIn followsᵇ digitOf
+unfolding readAll readFrom lineRead rowIn standsᵇ followsᵇ digitOf
 bad-first = refl
 
 -- refused in a later line: a gap, an overlap, a free chunk after a free one, a second cached one, a chunk that ends too far, a line feed too many
@@ -78,5 +78,5 @@ pub bad-later :
     ("110000000000000018\n100000002000000010\n" ∷ "110000000000000018\n100000001000000010\n" ∷ "100000000000000018\n100000001800000010\n"
     ∷ "120000000000000018\n100000001800000010\n120000002800000058\n" ∷ "11000000000003FFE0\n110003FFE000000010\n" ∷ "110000000000000018\n\n" ∷ [])
     ≡ bad 2 ∷ bad 2 ∷ bad 2 ∷ bad 3 ∷ bad 2 ∷ bad 2 ∷ []
-unfolding readAll readFrom lineRead rowIn followsᵇ digitOf
+unfolding readAll readFrom lineRead rowIn standsᵇ followsᵇ digitOf
 bad-later = refl

@@ -14,9 +14,13 @@ use Rattle.map.specs.Rows.{linesOf, wordsOf}
 use Rattle.map.specs.Layout.{mapOf}
 use Rattle.map.specs.Reading.{Read, rows, bad}
 
--- the room with the first places taken by xs; 6 where it is too short
+-- the room with its first places taken by xs
+unfoldable pub over : List ℕ → List ℕ → List ℕ
+over xs room = xs ++ drop (length xs) room
+
+-- done with n, and xs over the room; 6 where the room is too short
 unfoldable pub laid : ℕ → List ℕ → List ℕ → Outcome (List ℕ)
-laid n xs room = pick (leb (length xs) (length room)) (says 0 n 0 (xs ++ drop (length xs) room)) (says 6 0 0 room)
+laid n xs room = pick (leb (length xs) (length room)) (says 0 n 0 (over xs room)) (says 6 0 0 room)
 
 -- the rows of a state: its chunks as the headers give them
 unfoldable pub rowsOf : State → List Row

@@ -23,12 +23,17 @@ rowIn l =
 abbrev pub start : Place
 start = record { at = 0; free = false; held = 0 }
 
--- a row can follow at this place: a known kind, its offset, a legal length that ends in an accepted one, no free chunk after a free one, and a cache place
+-- a row is of a known kind, begins at byte b, and has a legal length that ends in an accepted one
+unfoldable pub standsᵇ : ℕ → ℕ → Row → Bool
+standsᵇ most b r =
+    both (leb freeKind (r .kind)) (both (leb (r .kind) cachedKind) (both (eqb (r .at) b)
+    (both (leb 16 (r .len)) (both (eqb (r .len % 8) 0) (leb (b + r .len) (4 * (most - 1)))))))
+
+-- a row can follow at this place: it stands there, is not free after a free one, and has a cache place if it is cached
 unfoldable pub followsᵇ : ℕ → ℕ → Place → Row → Bool
 followsᵇ most places p r =
-    both (leb 16 (r .kind)) (both (leb (r .kind) 18) (both (eqb (r .at) (p .at))
-    (both (leb 16 (r .len)) (both (eqb (r .len % 8) 0) (both (leb (p .at + r .len) (4 * (most - 1)))
-    (both (not (both (p .free) (eqb (r .kind) freeKind))) (leb (p .held + bit (eqb (r .kind) cachedKind)) places)))))))
+    both (standsᵇ most (p .at) r)
+    (both (not (both (p .free) (eqb (r .kind) freeKind))) (leb (p .held + bit (eqb (r .kind) cachedKind)) places))
 
 -- the place after a row
 abbrev pub past : Place → Row → Place

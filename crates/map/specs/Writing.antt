@@ -1,8 +1,8 @@
 -- WRITING ROW BY ROW: what the writer's inner contracts cite. The claims need nothing of this file.
 use mathlib.Core.Bool.{true, false}
-use mathlib.Core.List.{List, _++_}
+use mathlib.Core.List.{List}
 use Prim.Native.Nat.{ℕ, _*_, _/_, _≤_}
-use lib.ListN.{length, take, drop}
+use lib.ListN.{length}
 use Rattle.words.specs.Choice.{pick}
 use Rattle.words.specs.Tags.{at, lengthOf, freeᵇ}
 use Rattle.rules.specs.Chunks.{Chunk, total}
@@ -15,10 +15,6 @@ chunksIn ws = tile (at ws) (length ws) 0
 -- the chunk whose header stands at byte e
 abbrev pub chunkAt : List ℕ → ℕ → Chunk
 chunkAt ws e = record { len = lengthOf (at ws (e / 4)); used = pick (freeᵇ (at ws (e / 4))) false true }
-
--- xs laid over the room from place i on
-unfoldable pub overlaid : ℕ → List ℕ → List ℕ → List ℕ
-overlaid i xs room = take i room ++ (xs ++ drop (length xs) (drop i room))
 
 -- the chunks end where those of the longest heap do, at the latest
 abbrev pub Short : List ℕ → Type 0

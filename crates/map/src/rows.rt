@@ -1,8 +1,7 @@
 // A row of the map: kind, header offset and length of a chunk; its line read; and whether it can follow the rows before it.
-// Contracts cite specs/Reading.antt and specs/Steps.antt.
+// Contracts cite specs/Reading.antt.
 ghost use mathlib.Core.Path.{_≡_};
-ghost use Rattle.map.specs.Reading.{rowIn, followsᵇ};
-ghost use Rattle.map.specs.Steps.{standsᵇ};
+ghost use Rattle.map.specs.Reading.{rowIn, standsᵇ, followsᵇ};
 use frame::Field;
 
 // What the map's calls answer: done, with the number of chunks; the heap is damaged; the room is too short; the first bad line, from 1.

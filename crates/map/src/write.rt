@@ -7,8 +7,8 @@ ghost use Rattle.heap.specs.Seen.{seen};
 ghost use Rattle.map.specs.Answer.{told};
 ghost use Rattle.map.specs.Rows.{linesOf};
 ghost use Rattle.map.specs.Layout.{kindOf, mapOf};
-ghost use Rattle.map.specs.Calls.{written};
-ghost use Rattle.map.specs.Writing.{chunksIn, chunkAt, overlaid, Short, Roomy};
+ghost use Rattle.map.specs.Calls.{over, written};
+ghost use Rattle.map.specs.Writing.{chunksIn, chunkAt, Short, Roomy};
 use super::rows::Answer;
 use heap::Record;
 use words::Link;
@@ -53,7 +53,7 @@ fn count_chunks(heap: &[u32]) -> usize
 // Writes a line for each chunk, left to right, over the start of the room.
 fn write_lines(heap: &[u32], cached: Link, room: &mut [u8])
     requires { ⌜ Short (now heap) × Roomy (now heap) (now room) ⌝ }
-    ensures { λ _. ⌜ now (room .exit) ≡ overlaid 0 (linesOf (mapOf (cachedOf (cached .0)) 0 (chunksIn (now (heap .entry))))) (now (room .entry)) ⌝ }
+    ensures { λ _. ⌜ now (room .exit) ≡ over (linesOf (mapOf (cachedOf (cached .0)) 0 (chunksIn (now (heap .entry))))) (now (room .entry)) ⌝ }
 {
     let mut fuel = heap.len();
     let mut e: u32 = 0;

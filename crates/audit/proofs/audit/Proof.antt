@@ -44,16 +44,17 @@ returns-2 : tie.Need-returns-2
 returns-2 c =
     let walk = c .before .before .before .count-chunks .ensures .0 in
     let whole = not-false _ (c .before .before .if1 .left) in
-    let held = held-is _ _ _ _ (c .before .before .before .before .cached-word .ensures) (c .before .before .before .count-chunks .ensures .1 whole) in
+    let seen = c .before .before .before .count-chunks .ensures .1 whole in
+    let held = held-is _ _ _ _ (c .before .before .before .before .cached-word .ensures) (seen .0) in
     told (c .before .before .before .before .before .before) _
-    (refused (λ s. false≢true (sym (not-true _ (c .if2 .taken)) ∙ c .before .figures-right .ensures .1 (held-fit _ _ _ _ _ _ (sym held) (figures-of _ _ _ _ _ walk whole s)))))
+    (refused (λ s. false≢true (sym (not-true _ (c .if2 .taken)) ∙ c .before .figures-right .ensures .1 (held-fit _ _ _ _ _ _ (sym held) (figures-of _ _ _ _ _ walk whole (seen .1) s)))))
 
 cache-right-requires : tie.Need-cache-right-requires
 cache-right-requires c κs = search needs
 
 returns-3 : tie.Need-returns-3
 returns-3 c =
-    let held = c .before .before .before .before .before .count-chunks .ensures .1 (not-false _ (c .before .before .before .before .if1 .left)) in
+    let held = c .before .before .before .before .before .count-chunks .ensures .1 (not-false _ (c .before .before .before .before .if1 .left)) .0 in
     let cache = c .before .cache-right .ensures ∙ cache-held _ _ _ _ (c .before .before .before .before .before .before .cached-word .ensures) held in
     told (c .before .before .before .before .before .before .before .before) _
     (refused (λ s. false≢true (sym (not-true _ (c .if3 .taken)) ∙ cache ∙ cache-of _ _ _ _ s)))
@@ -65,27 +66,30 @@ returns-4 : tie.Need-returns-4
 returns-4 c =
     let walk = c .before .before .before .before .before .before .before .before .count-chunks .ensures .0 in
     let whole = not-false _ (c .before .before .before .before .before .before .before .if1 .left) in
+    let first = c .before .before .before .before .before .before .before .before .count-chunks .ensures .1 whole .1 in
     told (c .before .before .before .before .before .before .before .before .before .before .before) _
-    (refused (λ s. false≢true (sym (not-true _ (c .if4 .taken)) ∙ c .before .rings-right .ensures .1 (rings-of _ _ _ _ _ walk whole s))))
+    (refused (λ s. false≢true (sym (not-true _ (c .if4 .taken)) ∙ c .before .rings-right .ensures .1 (rings-of _ _ _ _ _ walk whole first s))))
 
 lists-right-requires : tie.Need-lists-right-requires
 lists-right-requires c κs =
     let walk = c .before .before .before .before .before .before .before .before .count-chunks .ensures .0 in
     let whole = not-false _ (c .before .before .before .before .before .before .before .if1 .left) in
+    let first = c .before .before .before .before .before .before .before .before .count-chunks .ensures .1 whole .1 in
     let rings = c .before .rings-right .ensures .0 (not-false _ (c .if4 .left)) in
-    ringed-of (c .before .before .before .before .before .before .before .before .before .before .before .args .prev) _ (c .before .before .before .before .before .before .before .before .before .before .before .args .figures) _ _ walk whole rings
+    ringed-of (c .before .before .before .before .before .before .before .before .before .before .before .args .prev) _ (c .before .before .before .before .before .before .before .before .before .before .before .args .figures) _ _ walk whole first rings
 
 returns-5 : tie.Need-returns-5
 returns-5 c =
     let walk = c .before .before .before .before .before .before .before .before .before .count-chunks .ensures .0 in
     let whole = not-false _ (c .before .before .before .before .before .before .before .before .if1 .left) in
-    let is = held-is _ _ _ _ (c .before .before .before .before .before .before .before .before .before .before .cached-word .ensures) (c .before .before .before .before .before .before .before .before .before .count-chunks .ensures .1 whole) in
+    let seen = c .before .before .before .before .before .before .before .before .before .count-chunks .ensures .1 whole in
+    let is = held-is _ _ _ _ (c .before .before .before .before .before .before .before .before .before .before .cached-word .ensures) (seen .0) in
     let figures = held-fit _ _ _ _ _ _ is (c .before .before .before .before .before .before .before .figures-right .ensures .0 (not-false _ (c .before .before .before .before .before .before .if2 .left))) in
-    let held = cache-held _ _ _ _ (c .before .before .before .before .before .before .before .before .before .before .cached-word .ensures) (c .before .before .before .before .before .before .before .before .before .count-chunks .ensures .1 whole) in
+    let held = cache-held _ _ _ _ (c .before .before .before .before .before .before .before .before .before .before .cached-word .ensures) (seen .0) in
     let cache = sym (c .before .before .before .before .before .cache-right .ensures ∙ held) ∙ not-false _ (c .before .before .before .before .if3 .left) in
     let rings = c .before .before .rings-right .ensures .0 (not-false _ (c .before .if4 .left)) in
     told (c .before .before .before .before .before .before .before .before .before .before .before .before) _
-    (passed-on _ (c .lists-right .ensures) (sound-of _ _ _ _ _ walk whole rings figures cache) (listed-of _ _ _ _ _ walk whole))
+    (passed-on _ (c .lists-right .ensures) (sound-of _ _ _ _ _ walk whole (seen .1) rings figures cache) (listed-of _ _ _ _ _ walk whole (seen .1)))
 
 pub audit-spec : {M : Type 1} → statement M
 audit-spec =

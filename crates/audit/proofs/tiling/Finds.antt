@@ -1,7 +1,7 @@
 -- Finding a chunk by its word: the turns of a search, that what is found is in the layout, and what a walk of all words holds of it.
 --     Seeking, seek-..      what is left to search from here is the whole search
 --     Holding, holding-..   a walk holds what it found at a word that it has passed
-use Prim.Native.Nat.{ℕ, zero, suc, _+_, _-_, _/_, _%_, _≤_, _<_}
+use Prim.Native.Nat.{ℕ, zero, suc, _+_, _-_, _/_, _≤_, _<_}
 use mathlib.Core.Path.{_≡_, refl, sym, ap, _∙_, subst}
 use mathlib.Core.Logic.{⊎-elim}
 use mathlib.Core.List.{List, [], _∷_}
@@ -126,16 +126,17 @@ module _ (ws : List ℕ) (w : ℕ) (y : Seen) (n : Bad ≡ y → ⊥) where
   unfolding chunkOf
   found-seen e = from-seen (suc (length ws)) 0 1 e
 
--- and in the layout
-guard-bad : (ws : List ℕ) (at left : ℕ) → getD ws at 0 < 16 → seenAt ws at left ≡ Bad
+-- the guard is less than any header
+pub guard-low : (ws : List ℕ) (at left : ℕ) → left ≤ 1 → eqb (getD ws at 0) (2 + left) ≡ true → getD ws at 0 < 16
+guard-low ws at left i e = omega (arith, i, eqb-true (getD ws at 0) (2 + left) e)
+
+-- so nothing is seen there
+pub guard-bad : (ws : List ℕ) (at left : ℕ) → getD ws at 0 < 16 → seenAt ws at left ≡ Bad
 unfolding seenAt pick
 guard-bad ws at left h =
     ⊎-elim
     (λ i. simp (le-ltb at (length ws) i))
-    (λ i. ⊎-elim
-    (λ j. simp (lt-ltb at (length ws) i, le-ltb (getD ws at 0 % 8) 4 j))
-    (λ j. simp (lt-ltb at (length ws) i, lt-ltb (getD ws at 0 % 8) 4 j, lt-leb 16 (getD ws at 0) h))
-    (le-or-lt 4 (getD ws at 0 % 8)))
+    (λ i. simp (lt-ltb at (length ws) i, lt-leb 16 (getD ws at 0) h))
     (le-or-lt (length ws) at)
 
 -- a choice of one thing
@@ -219,10 +220,10 @@ module _ (ws : List ℕ) (w at left held : ℕ) (g : Holding ws w at left held) 
       }
 
   -- at the guard the walk is past the word, or nothing is there
-  pub holding-guard : getD ws at 0 < 16 → held ≡ heldAt ws w
+  pub holding-guard : left ≤ 1 → eqb (getD ws at 0) (2 + left) ≡ true → held ≡ heldAt ws w
   unfolding lengthSeen
-  holding-guard h =
-      let e : seenAt ws at left ≡ Bad = guard-bad ws at left h in
+  holding-guard s h =
+      let e : seenAt ws at left ≡ Bad = guard-bad ws at left (guard-low ws at left s h) in
       ⊎-elim
       (λ i. g .ahead i .1
       ∙ sym (held-is ws w Bad

@@ -14,10 +14,10 @@ use Rattle.words.proofs.Laws.Sizes.{class-below}
 use Rattle.audit.specs.declared.tiling.Seen.the-variants.{Bad, Free, Used}
 use Rattle.audit.specs.declared.tiling.Tally.{Tally}
 use Rattle.audit.specs.Layout.{Chunk, pick, Tiles, freeLinks}
-use Rattle.audit.specs.Walk.{Broken, Whole, seenAt, walk, tiledBy, tallied, heldAt}
+use Rattle.audit.specs.Walk.{Broken, Whole, seenAt, walk, tiledBy, tallied, heldAt, firstFree}
 use Rattle.audit.proofs.Counting.{same-or, same-bit, diff-bit}
 use Rattle.audit.proofs.tiling.Headers.{free-room, used-room}
-use Rattle.audit.proofs.tiling.Walks.{Going, going-bad, going-free, going-used, going-guard, going-no-guard, tiled-complete}
+use Rattle.audit.proofs.tiling.Walks.{Going, going-bad, going-free, going-used, going-end, tiled-complete}
 
 -- THE LOOP'S INVARIANT, for all six classes
 pub record Tallying (ws : List ℕ) (at left sum top : ℕ) (frees : List ℕ) : Type 0 where
@@ -56,7 +56,7 @@ tells-broken ws t e b c i = b c i ∙ rw e refl
 
 -- and holds nothing
 pub broken-told : (ws : List ℕ) (w : ℕ) (t : Tally) → t .whole ≡ false → ((c : ℕ) → c < 6 → tiledBy ws c ≡ Broken)
-    → ((c : ℕ) → c < 6 → tiledBy ws c ≡ tallied t c) × (t .whole ≡ true → t .held ≡ heldAt ws w)
+    → ((c : ℕ) → c < 6 → tiledBy ws c ≡ tallied t c) × (t .whole ≡ true → (t .held ≡ heldAt ws w) × (t .first ≡ firstFree ws))
 broken-told ws w t e b = (tells-broken ws t e b, λ f. absurd (false≢true (sym e ∙ f)))
 
 module _ (ws : List ℕ) (at left sum top : ℕ) (frees : List ℕ) (t : Tallying ws at left sum top frees) where
@@ -111,14 +111,9 @@ module _ (ws : List ℕ) (at left sum top : ℕ) (frees : List ℕ) (t : Tallyin
               omega (arith, r, diff-bit (classOf n) c (λ z. v .0 (sym (q ∙ z)))))
               (same-or c k)
 
-  module _ (i : length ws ≤ at + 1) where
-    -- the guard ends the tiling
-    pub tallying-guard : getD ws at 0 ≡ 2 + left → (c : ℕ) → c < 6 → tiledBy ws c ≡ Whole sum top (getD frees c 0)
-    tallying-guard e c j = going-guard ws c at left sum top (getD frees c 0) (t .each c j) i e
-
-    -- no guard, no tiling
-    pub tallying-no-guard : (getD ws at 0 ≡ 2 + left → ⊥) → (c : ℕ) → c < 6 → tiledBy ws c ≡ Broken
-    tallying-no-guard e c j = going-no-guard ws c at left sum top (getD frees c 0) (t .each c j) i e
+  -- at the last word: the tiling is whole exactly where the guard is right
+  pub tallying-end : length ws ≤ at + 1 → (c : ℕ) → c < 6 → tiledBy ws c ≡ pick (eqb (getD ws at 0) (2 + left)) (Whole sum top (getD frees c 0)) Broken
+  tallying-end i c j = going-end ws c at left sum top (getD frees c 0) (t .each c j) i
 
 -- WHAT THE ANSWER SAYS
 module _ (ws : List ℕ) (t : Tally) (a : (c : ℕ) → c < 6 → tiledBy ws c ≡ tallied t c) where

@@ -1,13 +1,13 @@
 -- Laws of `specs/Answer.antt`. Assumes nothing.
 --     length-answer, answer-number, answer-value, answer-compared, answer-digits, answer-end     an answer's nineteen bytes
---     length-answered, answered-room, answered-short, answered-by     an answer written over lent bytes, field by field
-use mathlib.Core.Path.{_≡_, refl}
+--     length-answered, answered-room, answered-all, answered-short, answered-by     an answer written over lent bytes, field by field
+use mathlib.Core.Path.{_≡_, refl, _∙_}
 use mathlib.Core.Bool.{Bool, true, false, cond}
-use mathlib.Core.List.{List, [], _∷_, _++_, append-assoc}
+use mathlib.Core.List.{List, [], _∷_, _++_, append-nil, append-assoc}
 use Prim.Native.Nat.{ℕ, _+_, _≤_, _<_}
 use native.Mathlib.Omega.{arith}
 use lib.Dec.{leb}
-use lib.ListN.{length, getD, take, drop, set, length-drop, length-append}
+use lib.ListN.{length, getD, take, drop, set, length-drop, length-append, drop-of-length-le}
 use lib.Seq.{take-at, drop-at, drop-drop, drop-cons, set-at, length-take-le}
 use borrow.Rule.Slice.PartMut.{midOf, putMid}
 use borrow.Author.Tests.{le-leb, lt-leb, leb-true}
@@ -84,6 +84,11 @@ pub answered-room : (out : List ℕ) (number value compared : ℕ) → 19 ≤ le
     → answered out number value compared ≡ answerBytes number value compared ++ drop 19 out
 unfolding answered
 answered-room out number value compared h = rw (le-leb 19 (length out) h)
+
+-- where there is just room for it, the line is all
+pub answered-all : (out : List ℕ) (number value compared : ℕ) → length out ≡ 19 → answered out number value compared ≡ answerBytes number value compared
+answered-all out number value compared l =
+    answered-room out number value compared (omega arith) ∙ rw (drop-of-length-le out {i = 19} (omega arith), append-nil)
 
 -- too short for a line, they stay
 pub answered-short : (out : List ℕ) (number value compared : ℕ) → length out < 19 → out ≡ answered out number value compared

@@ -1,59 +1,22 @@
--- ALL LINES of a map: laws of `readFrom` (`specs/Reading.antt`) and of `counted` (`specs/Steps.antt`). Assumes nothing.
---     read-end, read-bad, read-stuck, read-on     lines read: at their end, at a bad line, and past a good one
+-- ALL LINES of a map, tried in a loop: laws of `counted` (`specs/Steps.antt`). Assumes nothing.
 --     counted-on, counted-rows, counted-bad     rows counted, and what the count tells
---     tried-start, tried-end, tried-bad, tried-stuck, tried-on     the same in a loop over the bytes
+--     tried-start, tried-end, tried-bad, tried-stuck, tried-on     a turn of the loop over the bytes, by what its line is
 use mathlib.Core.Path.{_≡_, refl, sym, ap, _∙_}
-use mathlib.Core.Bool.{Bool, true, false}
-use mathlib.Core.List.{List, []}
-use Prim.Native.Nat.{ℕ, zero, suc, _+_, _-_, _≤_, _<_}
+use mathlib.Core.Bool.{true, false}
+use mathlib.Core.List.{List}
+use Prim.Native.Nat.{ℕ, suc, _+_, _-_, _≤_, _<_}
 use native.Mathlib.Numerals.{add-one}
 use native.Mathlib.Omega.{arith}
 use lib.ListN.{length, take, drop, length-drop}
 use lib.Seq.{drop-drop}
-use borrow.Author.Tests.{eq-eqb, ne-eqb}
-use Rattle.words.specs.Choice.{pick}
 use Rattle.map.specs.declared.rows.Row.{Row}
 use Rattle.map.specs.declared.rows.Place.{Place}
-use Rattle.map.specs.declared.rows.Line.{Line}
 use Rattle.map.specs.declared.rows.Line.the-variants.{Good, Bad}
 use Rattle.map.specs.declared.read.Checked.{Checked}
 use Rattle.map.specs.declared.read.Checked.the-variants.{Rows, Wrong}
-use Rattle.map.specs.Reading.{rowIn, start, followsᵇ, past, Read, rows, bad, before, lineRead, readFrom}
+use Rattle.map.specs.Reading.{rowIn, start, followsᵇ, past, Read, rows, bad, before, readFrom}
 use Rattle.map.specs.Steps.{counted}
-
--- ---- lines read
-
-module _ (most places : ℕ) where
-  -- at the end there is nothing more
-  pub read-end : (f : ℕ) (p : Place) (k : ℕ) (bs : List ℕ) → length bs ≡ 0 → readFrom most places f p k bs ≡ rows []
-  unfolding readFrom
-  read-end zero p k bs h = refl
-  read-end (suc f) p k bs h = rw (eq-eqb (length bs) 0 h)
-
-  module _ (f : ℕ) (p : Place) (k : ℕ) (bs : List ℕ) (some : 0 < length bs) where
-    here : readFrom most places (suc f) p k bs ≡ lineRead most places p k (λ p'. readFrom most places f p' (suc k) (drop 19 bs)) (rowIn (take 19 bs))
-    unfolding readFrom
-    here = rw (ne-eqb (length bs) 0 (λ e. omega arith))
-
-    -- a line that is no row is bad
-    pub read-bad : rowIn (take 19 bs) ≡ Bad → readFrom most places (suc f) p k bs ≡ bad k
-    unfolding lineRead
-    read-bad e = here ∙ ap (λ (x : Line). lineRead most places p k (λ p'. readFrom most places f p' (suc k) (drop 19 bs)) x) e
-
-    module _ (r : Row) (e : rowIn (take 19 bs) ≡ Good r) where
-      line : readFrom most places (suc f) p k bs
-          ≡ pick (followsᵇ most places p r) (before r (readFrom most places f (past p r) (suc k) (drop 19 bs))) (bad k)
-      unfolding lineRead
-      line = here ∙ ap (λ (x : Line). lineRead most places p k (λ p'. readFrom most places f p' (suc k) (drop 19 bs)) x) e
-
-      -- so is one whose row cannot follow
-      pub read-stuck : followsᵇ most places p r ≡ false → readFrom most places (suc f) p k bs ≡ bad k
-      read-stuck h = line ∙ ap (λ (t : Bool). pick t (before r (readFrom most places f (past p r) (suc k) (drop 19 bs))) (bad k)) h
-
-      -- one whose row can stands before what is read after it
-      pub read-on : followsᵇ most places p r ≡ true
-          → readFrom most places (suc f) p k bs ≡ before r (readFrom most places f (past p r) (suc k) (drop 19 bs))
-      read-on h = line ∙ ap (λ (t : Bool). pick t (before r (readFrom most places f (past p r) (suc k) (drop 19 bs))) (bad k)) h
+use Rattle.map.proofs.Through.{read-end, read-bad, read-stuck, read-on}
 
 -- ---- rows counted
 

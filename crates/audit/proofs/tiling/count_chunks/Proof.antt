@@ -1,24 +1,25 @@
--- `audit::tiling::count_chunks` meets its contract. Invariant: for each class, what is left to walk with the sums so far is the whole walk, and what
--- was found at the word is held. Measure: the words ahead.
+-- `audit::tiling::count_chunks` meets its contract. Invariant: for each class, what is left to walk with the sums so far is the whole walk; what was
+-- found at the word is held; the first free chunk is met, or the search for it is on. Measure: the words ahead.
 use Prim.Native.Nat.{_-_}
 use mathlib.Core.Path.{sym, _∙_}
 use native.Mathlib.Omega.{arith}
 use lib.ListN.{length}
 use borrow.Author.Needs.{needs}
 use Rattle.audit.specs.Walk.{tallied}
-use Rattle.audit.specs.Layout.{pick}
 use Rattle.audit.proofs.tiling.Walks.{tiled-empty}
-use Rattle.audit.proofs.tiling.Tallies.{Tallying, tallying-starts, broken-told, tally-room, tallying-bad, tallying-free, tallying-used, tallying-guard, tallying-no-guard}
+use Rattle.audit.proofs.tiling.Tallies.{Tallying, tallying-starts, broken-told, tally-room, tallying-bad, tallying-free, tallying-used, tallying-end}
 use Rattle.audit.proofs.tiling.Finds.{Holding, holding-starts, holding-free, holding-used, holding-guard}
+use Rattle.audit.proofs.tiling.Firsts.{Opening, opening-starts, opening-free, opening-used, opening-guard}
 use Rattle.audit.proofs.tiling.Headers.{free-room, used-room}
 use Rattle.audit.proofs.tiling.count_chunks.Statement.{statement}
 use Rattle.audit.proofs.tiling.count_chunks.Tie as tie
 
 abbrev Inv-loop : tie.InvT-loop
-Inv-loop heap w at₀ left₀ sum₀ top₀ held₀ frees₀ at left sum top held frees = Tallying heap at left sum top frees × Holding heap w at left held
+Inv-loop heap w at₀ left₀ sum₀ top₀ held₀ frees₀ first₀ at left sum top held frees first =
+    Tallying heap at left sum top frees × Holding heap w at left held × Opening heap at left first
 
 abbrev μ-loop : tie.MeasureT-loop
-μ-loop heap w at₀ left₀ sum₀ top₀ held₀ frees₀ at left sum top held frees = length heap - at
+μ-loop heap w at₀ left₀ sum₀ top₀ held₀ frees₀ first₀ at left sum top held frees first = length heap - at
 
 no-tiling-requires : tie.Need-no-tiling-requires Inv-loop μ-loop
 no-tiling-requires c κs = search needs
@@ -26,8 +27,11 @@ no-tiling-requires c κs = search needs
 returns : tie.Need-returns Inv-loop μ-loop
 returns c = broken-told _ _ _ (c .no-tiling .ensures) (λ k i. tiled-empty _ k (c .before .if1 .taken))
 
+sub-first : tie.Need-sub-first Inv-loop μ-loop
+sub-first c = search needs
+
 loop-holds : tie.Need-loop-holds Inv-loop μ-loop
-loop-holds c = (tallying-starts _ (omega arith), holding-starts _ _)
+loop-holds c = (tallying-starts _ (omega arith), holding-starts _ _, opening-starts _ (omega arith))
 
 add-loop : tie.Need-add-loop Inv-loop μ-loop
 add-loop c = search needs
@@ -70,20 +74,24 @@ mul-frees-2 c = omega (arith, tally-room _ _ _ _ _ _ (c .before .before .before 
 array-write-frees : tie.Need-array-write-frees Inv-loop μ-loop
 array-write-frees c = omega (arith, tally-room _ _ _ _ _ _ (c .before .before .before .before .before .before .loop .inv .0) _ _ (c .chunk-size-to-list-index .ensures))
 
+lower-requires : tie.Need-lower-requires Inv-loop μ-loop
+lower-requires c κs = search needs
+
 cast-at : tie.Need-cast-at Inv-loop μ-loop
 cast-at c = search needs
 
 add-at : tie.Need-add-at Inv-loop μ-loop
-add-at c = omega (arith, free-room _ _ _ _ (sym (c .before .before .before .before .seen-at .ensures) ∙ c .before .before .seen .given .1))
+add-at c = omega (arith, free-room _ _ _ _ (sym (c .before .before .before .before .before .seen-at .ensures) ∙ c .before .before .before .seen .given .1))
 
 loop-less : tie.Need-loop-less Inv-loop μ-loop
-loop-less c = omega (arith, free-room _ _ _ _ (sym (c .before .before .before .before .seen-at .ensures) ∙ c .before .before .seen .given .1))
+loop-less c = omega (arith, free-room _ _ _ _ (sym (c .before .before .before .before .before .seen-at .ensures) ∙ c .before .before .before .seen .given .1))
 
 loop-again : tie.Need-loop-again Inv-loop μ-loop
 loop-again c =
-    let seen = sym (c .before .before .before .before .seen-at .ensures) ∙ c .before .before .seen .given .1 in (
-      tallying-free _ _ _ _ _ _ (c .before .before .before .before .before .before .loop .inv .0) (c .before .before .before .before .before .loop-test .taken) _ _ seen (c .chunk-size-to-list-index .ensures),
-      holding-free _ _ _ _ _ (c .before .before .before .before .before .before .loop .inv .1) _ seen,
+    let seen = sym (c .before .before .before .before .before .seen-at .ensures) ∙ c .before .before .before .seen .given .1 in (
+      tallying-free _ _ _ _ _ _ (c .before .before .before .before .before .before .before .loop .inv .0) (c .before .before .before .before .before .before .loop-test .taken) _ _ seen (c .before .chunk-size-to-list-index .ensures),
+      holding-free _ _ _ _ _ (c .before .before .before .before .before .before .before .loop .inv .1) _ seen,
+      rw (c .lower .ensures) (opening-free _ _ _ _ (c .before .before .before .before .before .before .before .loop .inv .2) _ (c .before .before .before .before .before .before .loop-test .taken) seen),
     )
 
 enum-known-seen-2 : tie.Need-enum-known-seen-2 Inv-loop μ-loop
@@ -118,29 +126,28 @@ loop-again-2 c =
     let seen = sym (c .before .before .before .before .seen-at .ensures) ∙ c .before .before .seen2 .given .1 in (
       tallying-used _ _ _ _ _ _ (c .before .before .before .before .before .before .loop .inv .0) (c .before .before .before .before .before .loop-test .taken) _ seen,
       rw (c .hold .ensures) (holding-used _ _ _ _ _ (c .before .before .before .before .before .before .loop .inv .1) _ seen),
+      opening-used _ _ _ _ (c .before .before .before .before .before .before .loop .inv .2) _ seen,
     )
 
-mul-if2 : tie.Need-mul-if2 Inv-loop μ-loop
-mul-if2 c = search needs
+mul-whole : tie.Need-mul-whole Inv-loop μ-loop
+mul-whole c = search needs
 
-shared-slice-read-if2 : tie.Need-shared-slice-read-if2 Inv-loop μ-loop
-shared-slice-read-if2 c = search needs
+shared-slice-read-whole : tie.Need-shared-slice-read-whole Inv-loop μ-loop
+shared-slice-read-whole c = search needs
 
-add-if2 : tie.Need-add-if2 Inv-loop μ-loop
-add-if2 c = search needs
-
-no-tiling-requires-3 : tie.Need-no-tiling-requires-3 Inv-loop μ-loop
-no-tiling-requires-3 c κs = search needs
+add-whole : tie.Need-add-whole Inv-loop μ-loop
+add-whole c = search needs
 
 returns-3 : tie.Need-returns-3 Inv-loop μ-loop
-returns-3 c = broken-told _ _ _ (c .no-tiling3 .ensures) (tallying-no-guard _ _ _ _ _ _ (c .before .before .before .before .loop .inv .0) (c .before .before .before .loop-test .left) (c .before .if2 .taken))
-
-returns-4 : tie.Need-returns-4 Inv-loop μ-loop
-unfolding tallied pick
-returns-4 c = (
-  tallying-guard _ _ _ _ _ _ (c .before .before .before .loop .inv .0) (c .before .before .loop-test .left) (c .if2 .left),
-  λ e. holding-guard _ _ _ _ _ (c .before .before .before .loop .inv .1) (omega (arith, c .before .before .before .loop .inv .0 .small, c .if2 .left)),
-)
+unfolding tallied
+returns-3 c =
+    let inv = c .before .before .loop .inv in (
+      tallying-end _ _ _ _ _ _ (inv .0) (c .before .loop-test .left),
+      λ e. (
+        holding-guard _ _ _ _ _ (inv .1) (inv .0 .small) e,
+        opening-guard _ _ _ _ (inv .2) (c .before .loop-test .left) (inv .0 .here) (inv .0 .small) e,
+      ),
+    )
 
 pub count-chunks-spec : {M : Type 1} → statement M
 count-chunks-spec =
@@ -150,6 +157,7 @@ count-chunks-spec =
     μ-loop
     no-tiling-requires
     returns
+    sub-first
     loop-holds
     add-loop
     seen-at-requires
@@ -164,6 +172,7 @@ count-chunks-spec =
     add-frees
     mul-frees-2
     array-write-frees
+    lower-requires
     cast-at
     add-at
     loop-less
@@ -178,9 +187,7 @@ count-chunks-spec =
     mul-top
     loop-less-2
     loop-again-2
-    mul-if2
-    shared-slice-read-if2
-    add-if2
-    no-tiling-requires-3
-    returns-3
-    returns-4)
+    mul-whole
+    shared-slice-read-whole
+    add-whole
+    returns-3)

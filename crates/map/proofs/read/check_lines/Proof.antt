@@ -1,14 +1,15 @@
 -- `map::read::check_lines` meets its contract. Invariant: all lines count to what those from byte i on count to, after n rows. Measure: the bytes that are
 -- left.
 use mathlib.Core.Path.{_≡_, sym, _∙_}
-use Prim.Native.Nat.{_-_, _≤_}
+use Prim.Native.Nat.{_+_, _-_, _≤_}
 use native.Mathlib.Omega.{arith}
 use lib.ListN.{length}
 use borrow.Author.Needs.{needs}
 use borrow.Author.Tests.{not-true, not-false}
 use Rattle.map.specs.Reading.{start, readFrom}
 use Rattle.map.specs.Steps.{counted}
-use Rattle.map.proofs.Reader.OneLine.{row-inside, follows-room}
+use Rattle.map.proofs.RowTests.{fits-true}
+use Rattle.map.proofs.RowLaws.{row-inside}
 use Rattle.map.proofs.Reader.AllLines.{tried, tried-start, tried-bad, tried-stuck, tried-on, tried-end}
 use Rattle.map.proofs.read.check_lines.Statement.{statement}
 use Rattle.map.proofs.read.check_lines.Tie as tie
@@ -19,6 +20,11 @@ Inv-loop lines p₀ i₀ n₀ p i n =
 
 abbrev μ-loop : tie.MeasureT-loop
 μ-loop lines p₀ i₀ n₀ p i n = length lines - i
+
+-- a line that is a row ends inside the bytes
+inside : (c : tie.After-line Inv-loop μ-loop)
+    → c .before .before .before .before .loop .i + 19 ≤ length (c .before .before .before .before .before .before .args .lines .now)
+inside c = row-inside _ _ _ (sym (c .line .given .1) ∙ c .before .before .line-at .ensures)
 
 loop-holds : tie.Need-loop-holds Inv-loop μ-loop
 loop-holds c = (tried-start 65529 1 (c .before .args .lines .now), omega arith, omega arith)
@@ -60,36 +66,27 @@ returns-2 c =
 
 place-after-requires : tie.Need-place-after-requires Inv-loop μ-loop
 place-after-requires c κs =
-    let room = follows-room _ _ _ _ (sym (c .before .follows .ensures) ∙ not-false _ (c .if1 .left)) in
-    omega arith
+    let f = fits-true _ _ _ _ (sym (c .before .follows .ensures) ∙ not-false _ (c .if1 .left)) in
+    omega (arith, f .room, f .stands .within)
 
 add-i : tie.Need-add-i Inv-loop μ-loop
-add-i c =
-    let read = c .before .before .before .before in
-    let here = read .before .before .before .before in
-    let bytes = here .before .before .args .lines .now in
-    omega (arith, row-inside bytes (here .loop .i) _ (sym (read .before .before .line-at .ensures) ∙ read .line .given .1))
+add-i c = omega (arith, inside (c .before .before .before .before))
 
 add-n : tie.Need-add-n Inv-loop μ-loop
 add-n c = search needs
 
 loop-less : tie.Need-loop-less Inv-loop μ-loop
-loop-less c =
-    let read = c .before .before .before .before in
-    let here = read .before .before .before .before in
-    let bytes = here .before .before .args .lines .now in
-    omega (arith, row-inside bytes (here .loop .i) _ (sym (read .before .before .line-at .ensures) ∙ read .line .given .1))
+loop-less c = omega (arith, inside (c .before .before .before .before))
 
 loop-again : tie.Need-loop-again Inv-loop μ-loop
 loop-again c =
     let read = c .before .before .before .before in
-    let here = read .before .before .before .before in
-    let bytes = here .before .before .args .lines .now in (
+    let here = read .before .before .before .before in (
       here .loop .inv .0
-          ∙ tried-on _ _ _ bytes _ _ (read .before .before .before .loop-test .taken) (here .loop .inv .2) _
+          ∙ tried-on _ _ _ (here .before .before .args .lines .now) _ _ (read .before .before .before .loop-test .taken) (here .loop .inv .2) _
           (sym (read .line .given .1) ∙ read .before .before .line-at .ensures)
           (sym (not-false _ (c .before .if1 .left)) ∙ c .before .before .follows .ensures) _ (c .place-after .ensures),
-      omega (arith, row-inside bytes (here .loop .i) _ (sym (read .before .before .line-at .ensures) ∙ read .line .given .1)),
+      inside read,
       omega arith,
     )
 

@@ -1,12 +1,13 @@
 -- `map::read::lay_rows` meets its contract. Invariant: once the lines from byte i on are laid behind the first k rows, the room is what the contract says.
 -- Measure: the rows that are left.
 use mathlib.Core.Path.{_≡_, refl, sym, _∙_}
-use Prim.Native.Nat.{_-_, _≤_}
+use Prim.Native.Nat.{_+_, _-_, _≤_}
 use native.Mathlib.Omega.{arith}
 use lib.ListN.{length, length-set}
 use borrow.Author.Needs.{needs}
-use Rattle.map.specs.Steps.{wordsIn, over}
-use Rattle.map.proofs.Reader.OneLine.{row-inside}
+use Rattle.map.specs.Steps.{wordsIn}
+use Rattle.map.specs.Calls.{over}
+use Rattle.map.proofs.RowLaws.{row-inside}
 use Rattle.map.proofs.Reader.Laid.{laying, laying-start, laying-bad, laying-on, laying-end}
 use Rattle.map.proofs.read.lay_rows.Statement.{statement}
 use Rattle.map.proofs.read.lay_rows.Tie as tie
@@ -17,6 +18,11 @@ Inv-loop lines n room₀ i₀ k₀ room i k =
 
 abbrev μ-loop : tie.MeasureT-loop
 μ-loop lines n room₀ i₀ k₀ room i k = n - k
+
+-- a line that is a row ends inside the bytes
+inside : (c : tie.After-line Inv-loop μ-loop)
+    → c .before .before .before .before .loop .i + 19 ≤ length (c .before .before .before .before .before .before .before .args .lines .now)
+inside c = row-inside _ _ _ (sym (c .line .given .1) ∙ c .before .before .line-at .ensures)
 
 loop-holds : tie.Need-loop-holds Inv-loop μ-loop
 loop-holds c = (laying-start _ _ _, omega arith, omega arith, refl)
@@ -71,11 +77,7 @@ slice-write-room-3 : tie.Need-slice-write-room-3 Inv-loop μ-loop
 slice-write-room-3 c = simp length-set (omega arith)
 
 add-i : tie.Need-add-i Inv-loop μ-loop
-add-i c =
-    let read = c .before in
-    let here = read .before .before .before .before in
-    let bytes = here .before .before .before .args .lines .now in
-    omega (arith, row-inside bytes (here .loop .i) _ (sym (read .before .before .line-at .ensures) ∙ read .line .given .1))
+add-i c = omega (arith, inside (c .before))
 
 add-k : tie.Need-add-k Inv-loop μ-loop
 add-k c = search needs
@@ -86,12 +88,11 @@ loop-less c = search needs
 loop-again : tie.Need-loop-again Inv-loop μ-loop
 loop-again c =
     let read = c .before in
-    let here = read .before .before .before .before in
-    let bytes = here .before .before .before .args .lines .now in (
+    let here = read .before .before .before .before in (
       here .loop .inv .0
-          ∙ laying-on _ bytes (here .loop .room) _ _ _ (read .before .before .before .loop-test .taken)
+          ∙ laying-on _ (here .before .before .before .args .lines .now) (here .loop .room) _ _ _ (read .before .before .before .loop-test .taken)
           (omega (arith, here .before .before .before .pre, here .loop .inv .3)) (sym (read .line .given .1) ∙ read .before .before .line-at .ensures),
-      omega (arith, row-inside bytes (here .loop .i) _ (sym (read .before .before .line-at .ensures) ∙ read .line .given .1)),
+      inside read,
       omega arith,
       simp length-set (here .loop .inv .3),
     )

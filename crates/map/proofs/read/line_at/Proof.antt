@@ -2,7 +2,7 @@
 use mathlib.Core.Path.{_∙_}
 use native.Mathlib.Omega.{arith}
 use borrow.Author.Needs.{needs}
-use Rattle.map.proofs.Reader.OneLine.{row-short, row-part}
+use Rattle.map.proofs.RowLaws.{row-short, row-part}
 use Rattle.map.proofs.read.line_at.Statement.{statement}
 use Rattle.map.proofs.read.line_at.Tie as tie
 

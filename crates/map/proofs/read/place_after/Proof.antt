@@ -1,7 +1,7 @@
 -- `map::read::place_after` meets its contract, by its one test.
 use borrow.Author.Needs.{needs}
 use borrow.Author.Tests.{eq-eqb}
-use Rattle.map.proofs.Reader.OneLine.{past-other}
+use Rattle.map.proofs.RowTests.{past-other}
 use Rattle.map.proofs.read.place_after.Statement.{statement}
 use Rattle.map.proofs.read.place_after.Tie as tie
 

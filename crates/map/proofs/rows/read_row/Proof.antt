@@ -1,7 +1,8 @@
 -- `map::rows::read_row` meets its contract: of nineteen bytes that a line feed ends, two are read as the kind, eight as the offset, eight as the length.
 use mathlib.Core.Path.{sym, _∙_}
+use native.Mathlib.Omega.{arith}
 use borrow.Author.Needs.{needs}
-use Rattle.map.proofs.Reader.OneLine.{row-length, row-end, row-kind, row-offset, row-size, row-is}
+use Rattle.map.proofs.RowLaws.{row-length, row-end, row-none, row-is}
 use Rattle.map.proofs.rows.read_row.Statement.{statement}
 use Rattle.map.proofs.rows.read_row.Tie as tie
 
@@ -34,7 +35,8 @@ enum-told c = search needs
 
 returns-3 : tie.Need-returns-3
 returns-3 c =
-    row-kind _ (c .before .before .before .before .before .before .if1 .left) (sym (c .enum-told .given .1) ∙ c .before .before .read-field .ensures)
+    row-none _ (c .before .before .before .before .before .before .if1 .left) 0 2 (omega arith) (omega arith)
+    (sym (c .enum-told .given .1) ∙ c .before .before .read-field .ensures)
 
 sub-read-field-2 : tie.Need-sub-read-field-2
 sub-read-field-2 c = search needs
@@ -57,7 +59,7 @@ enum-told-2 c = search needs
 returns-4 : tie.Need-returns-4
 returns-4 c =
     let first = c .before .before .before .before .before in
-    row-offset _ (first .before .before .before .before .before .before .if1 .left)
+    row-none _ (first .before .before .before .before .before .before .if1 .left) 2 8 (omega arith) (omega arith)
     (sym (c .enum-told2 .given .1) ∙ c .before .before .read-field2 .ensures)
 
 sub-read-field-3 : tie.Need-sub-read-field-3
@@ -82,7 +84,7 @@ returns-5 : tie.Need-returns-5
 returns-5 c =
     let second = c .before .before .before .before .before in
     let first = second .before .before .before .before .before in
-    row-size _ (first .before .before .before .before .before .before .if1 .left)
+    row-none _ (first .before .before .before .before .before .before .if1 .left) 10 8 (omega arith) (omega arith)
     (sym (c .enum-told3 .given .1) ∙ c .before .before .read-field3 .ensures)
 
 returns-6 : tie.Need-returns-6

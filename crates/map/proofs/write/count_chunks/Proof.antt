@@ -9,7 +9,7 @@ use Rattle.words.specs.Tags.{at}
 use Rattle.rules.specs.Chunks.{total}
 use Rattle.rules.specs.Test.{tile}
 use Rattle.map.specs.Writing.{chunksIn}
-use Rattle.map.proofs.Writing.{tile-out, tile-guard, total-on, length-on}
+use Rattle.map.proofs.Writing.{Left, tile-out, tile-guard, chunk-left}
 use Rattle.map.proofs.write.count_chunks.Statement.{statement}
 use Rattle.map.proofs.write.count_chunks.Tie as tie
 
@@ -19,6 +19,12 @@ Inv-loop heap fuel₀ e₀ n₀ fuel e n =
 
 abbrev μ-loop : tie.MeasureT-loop
 μ-loop heap fuel₀ e₀ n₀ fuel e n = fuel
+
+-- what the chunk that is counted leaves
+left : (c : tie.Else1 Inv-loop μ-loop)
+    → Left (c .before .before .before .before .before .args .heap .now) (c .before .before .before .loop .fuel) (c .before .before .before .loop .e)
+    (c .before .get-hdr-chunk-size .result)
+left c = chunk-left _ _ _ (c .before .get-hdr-chunk-size .ensures) _ (c .before .before .loop-test .taken) (c .if1 .left)
 
 loop-holds : tie.Need-loop-holds Inv-loop μ-loop
 unfolding chunksIn
@@ -32,14 +38,13 @@ get-hdr-chunk-size-requires c κs = search needs
 
 returns : tie.Need-returns Inv-loop μ-loop
 returns c =
-    omega (
-      arith,
-      c .before .before .before .loop .inv .0,
-      ap length (tile-guard (c .before .before .before .before .before .args .heap .now) (c .before .before .before .loop .e) _ (c .before .get-hdr-chunk-size .ensures) _ (c .before .before .loop-test .taken) (c .if1 .taken)),
-    )
+    let here = c .before .before .before in
+    let none = tile-guard (here .before .before .args .heap .now) (here .loop .e) _ (c .before .get-hdr-chunk-size .ensures) _
+    (c .before .before .loop-test .taken) (c .if1 .taken) in
+    omega (arith, here .loop .inv .0, ap length none)
 
 add-e : tie.Need-add-e Inv-loop μ-loop
-add-e c = omega (arith, total-on (c .before .before .before .before .before .args .heap .now) (c .before .before .before .loop .e) _ (c .before .get-hdr-chunk-size .ensures) _ (c .before .before .loop-test .taken) (c .if1 .left))
+add-e c = omega (arith, left c .bytes)
 
 add-n : tie.Need-add-n Inv-loop μ-loop
 add-n c = search needs
@@ -51,14 +56,12 @@ loop-less : tie.Need-loop-less Inv-loop μ-loop
 loop-less c = omega arith
 
 loop-again : tie.Need-loop-again Inv-loop μ-loop
-loop-again c = (
-  omega (arith, length-on (c .before .before .before .before .before .args .heap .now) (c .before .before .before .loop .e) _ (c .before .get-hdr-chunk-size .ensures) _ (c .before .before .loop-test .taken) (c .if1 .left)),
-  omega (arith, total-on (c .before .before .before .before .before .args .heap .now) (c .before .before .before .loop .e) _ (c .before .get-hdr-chunk-size .ensures) _ (c .before .before .loop-test .taken) (c .if1 .left)),
-  omega arith,
-)
+loop-again c = (omega (arith, left c .chunks), omega (arith, left c .bytes), omega arith)
 
 returns-2 : tie.Need-returns-2 Inv-loop μ-loop
-returns-2 c = omega (arith, c .before .loop .inv .0, ap length (tile-out (c .before .before .before .args .heap .now) _ (c .before .loop .e) (c .loop-test .left)))
+returns-2 c =
+    let here = c .before in
+    omega (arith, here .loop .inv .0, ap length (tile-out (here .before .before .args .heap .now) _ (here .loop .e) (c .loop-test .left)))
 
 pub count-chunks-spec : {M : Type 1} → statement M
 count-chunks-spec =

@@ -11,7 +11,9 @@ is-this-free-requires : tie.Need-is-this-free-requires
 is-this-free-requires c κs = search needs
 
 returns : tie.Need-returns
-returns c = kind-free (c .before .before .before .args .heap .now) (c .before .before .before .args .cached .0) (c .before .before .before .args .e) _ (c .before .is-this-free .ensures) (c .if1 .taken)
+returns c =
+    let start = c .before .before .before in
+    kind-free (start .args .heap .now) (start .args .cached .0) (start .args .e) _ (c .before .is-this-free .ensures) (c .if1 .taken)
 
 add-if2 : tie.Need-add-if2
 add-if2 c = search needs
@@ -20,11 +22,16 @@ cast-if2 : tie.Need-cast-if2
 cast-if2 c = search needs
 
 returns-2 : tie.Need-returns-2
-returns-2 c = kind-cached (c .before .before .before .before .before .args .heap .now) (c .before .before .before .before .before .args .cached .0) (c .before .before .before .before .before .args .e) _ (c .before .before .before .is-this-free .ensures) (c .before .before .if1 .left) (c .if2 .taken)
+returns-2 c =
+    let used = c .before .before in
+    let start = used .before .before .before in
+    kind-cached (start .args .heap .now) (start .args .cached .0) (start .args .e) _ (used .before .is-this-free .ensures) (used .if1 .left) (c .if2 .taken)
 
 returns-3 : tie.Need-returns-3
-returns-3 c = kind-live (c .before .before .before .before .before .args .heap .now) (c .before .before .before .before .before .args .cached .0) (c .before .before .before .before .before .args .e) _ (c .before .before .before .is-this-free .ensures) (c .before .before .if1 .left) (c .if2 .left)
+returns-3 c =
+    let used = c .before .before in
+    let start = used .before .before .before in
+    kind-live (start .args .heap .now) (start .args .cached .0) (start .args .e) _ (used .before .is-this-free .ensures) (used .if1 .left) (c .if2 .left)
 
 pub kind-at-spec : {M : Type 1} → statement M
-kind-at-spec =
-    tie.close (tie.spec cast-t6 is-this-free-requires returns add-if2 cast-if2 returns-2 returns-3)
+kind-at-spec = tie.close (tie.spec cast-t6 is-this-free-requires returns add-if2 cast-if2 returns-2 returns-3)
