@@ -3,8 +3,9 @@
 // Its memory is 16,383 words set to 0. What a line means and does is in the libraries: crates `frame` (which lines are frames) and `turn`
 // (what a line does to record and memory, and what it is answered). A line of any length is one line; the first eleven bytes tell that it is
 // no frame. A last line without its line feed gets 7. A read or a write that fails ends the program.
-ghost use Prim.Native.Nat.{_≤_};
+ghost use Prim.Native.Nat.{_<_};
 ghost use lib.ListN.{length};
+ghost use Rattle.trace.specs.Answers.{standing, AnswersLine, OneLine, Answers};
 use frame::Line;
 use heap::Record;
 use lines::Input;
@@ -33,7 +34,8 @@ fn main() {
 
 // Answers every line of the input.
 fn all_lines(memory: &mut [u32], out: &mut [u8], line: &mut [u8], buffer: &mut [u8]) -> Output
-    requires { ⌜ 19 ≤ length (now out) ⌝ }
+    requires { ⌜ 10 < length (now line) ⌝ }
+    ensures { λ r. ⌜ Answers (now (memory .entry)) (now (out .entry)) (now (buffer .entry)) r (now (memory .exit)) (now (out .exit)) ⌝ }
 {
     let mut run = Run {
         rec: Record::empty(),
@@ -51,7 +53,12 @@ fn all_lines(memory: &mut [u32], out: &mut [u8], line: &mut [u8], buffer: &mut [
 
 // Reads a line and answers it, if there is one. A last line without its line feed is no frame.
 fn one_line(run: Run, memory: &mut [u32], out: &mut [u8], line: &mut [u8], buffer: &mut [u8]) -> Run
-    requires { ⌜ 19 ≤ length (now out) ⌝ }
+    ensures {
+        λ r. ⌜
+            OneLine (standing (run .rec) (run .output) (now (memory .entry)) (now (out .entry))) (run .input) (now (line .entry)) (now (buffer .entry))
+            r (now (memory .exit)) (now (out .exit)) (now (line .exit)) (now (buffer .exit))
+        ⌝
+    }
 {
     let before = run.input;
     let rec = run.rec;
@@ -81,7 +88,7 @@ fn answer(
     out: &mut [u8],
     line: Line,
 ) -> Run
-    requires { ⌜ 19 ≤ length (now out) ⌝ }
+    ensures { λ r. ⌜ AnswersLine (standing rec output (now (memory .entry)) (now (out .entry))) input line r (now (memory .exit)) (now (out .exit)) ⌝ }
 {
     let reply = turn::turn(rec, memory, line);
     let next = reply.rec;
