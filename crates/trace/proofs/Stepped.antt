@@ -1,13 +1,14 @@
--- LAWS of `specs/Answers.antt` for one line, from the tests and the callees' contracts as the code has them. Assumes nothing.
---     step-on                          a line answered where the program stands as it should
+-- LAWS of `specs/Stepping.antt`, from the tests and the callees' contracts as the code has them. Assumes nothing.
+--     step-on, meets-on                a line answered where the program stands as it should, and none answered
 --     answer-by                        a turn, its answer line put, and what waits written out if that is due
 --     took-fed, took-unfed, took-none  a line with its line feed, one without, and none
+--     no-unfed                         reading failed, or nothing is kept
 --     one-by, one-none                 a line taken and answered, or none
 use mathlib.Core.Path.{_≡_, refl, sym, ap, _∙_, subst}
 use mathlib.Core.Bool.{Bool, true, false, not, _&&_, cond, and-false}
 use mathlib.Core.Logic.{_⊎_, inl, inr}
 use mathlib.Core.List.{List}
-use Prim.Native.Nat.{ℕ, _≤_, _<_}
+use Prim.Native.Nat.{ℕ}
 use lib.Dec.{eqb, leb, ltb}
 use lib.ListN.{length}
 use Rattle.rules.specs.Rules.{Outcome}
@@ -26,7 +27,7 @@ use Rattle.lines.specs.Taking.{TakesLine, keptLine}
 use Rattle.lines.specs.Waiting.{Known, sure, unsure, Buffered, waiting, Allows, Agrees, tried, failureOf, flushed, flushedIf, put}
 use Rattle.lines.proofs.Waiting.{agrees-same, put-on}
 use Rattle.trace.specs.declared.Run.{Run}
-use Rattle.trace.specs.Answers.{Stand, standing, step, Meets, dueAt, AnswersLine, tookOne, OneLine}
+use Rattle.trace.specs.Stepping.{Stand, standing, step, Meets, dueAt, AnswersLine, tookOne, OneLine}
 
 -- ---- the output buffer
 

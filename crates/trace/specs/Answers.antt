@@ -1,70 +1,18 @@
--- WHAT THE PROGRAM DOES (document 01, "Trace frames"): lines are taken of standard input one after the other, each has its turn, and each turn's answer
--- line is put behind what waits to be written. The statement to read is `Answers`, at the end.
+-- WHAT THE PROGRAM DOES (document 01, "Trace frames"): the statement to read is `Answers`, at the end. Which bytes the system gives no contract can say, nor
+-- what it does with those written out: the statement speaks of reads that may have been, and of the bytes that wait to be written.
 use mathlib.Core.Path.{_≡_}
-use mathlib.Core.Bool.{Bool, true, false, not, _&&_, cond}
+use mathlib.Core.Bool.{Bool, false}
 use mathlib.Core.List.{List, [], _∷_, _++_, List·Memᴰ}
 use Prim.Native.Nat.{ℕ, _+_, _<_}
-use lib.Dec.{eqb, ltb}
 use lib.ListN.{length}
-use Rattle.rules.specs.Rules.{Outcome}
-use Rattle.rules.specs.Making.{State, empty}
-use Rattle.heap.specs.declared.record.Record.{Record}
-use Rattle.heap.specs.Seen.{seen}
-use Rattle.frame.specs.declared.line.Line.{Line}
+use Rattle.rules.specs.Making.{empty}
 use Rattle.frame.specs.declared.line.Line.the-variants.{Bad}
 use Rattle.frame.specs.Line.{lineOf}
-use Rattle.frame.specs.Answer.{answerBytes}
-use Rattle.turn.specs.Turned.{turned}
-use Rattle.lines.specs.declared.input.Input.{Input}
 use Rattle.lines.specs.declared.output.Output.{Output}
 use Rattle.lines.specs.Given.{Read, allGiven, failing, latest, Reads}
-use Rattle.lines.specs.Taking.{allTurns, TakesLine, keptLine}
-use Rattle.lines.specs.Waiting.{Buffered, waiting, Agrees, put, flushedIf, sure}
-use Rattle.trace.specs.declared.Run.{Run}
-
--- WHERE THE PROGRAM STANDS between two lines: record and memory, and the output buffer
-pub record Stand : Type 0 where
-  pub heap : State
-  pub out : Buffered
-
--- the same by the code's values
-abbrev pub standing : Record → Output → List ℕ → List ℕ → Stand
-standing rec output memory out = record { heap = seen rec memory; out = waiting output out }
-
--- A LINE ANSWERED: it has its turn, the answer line is put behind what waits, and what waits is written out if that is due
-unfoldable pub step : Stand → Line → Bool → Stand
-step s line due =
-    let t : Outcome State = turned (s .heap) line in
-    record { heap = t .after; out = flushedIf due (put (answerBytes (t .number) (t .value) (t .compared)) (s .out)) }
-
--- THE PROMISE: record and memory are as they should be, and so is the buffer, but for a failure that the system's answer decides
-pub record Meets (a w : Stand) : Type 0 where
-  pub heap : a .heap ≡ w .heap
-  pub out : Agrees (a .out) (w .out)
-
--- what waits is written out before the program has to wait for input
-abbrev pub dueAt : Input → Bool
-dueAt i = eqb (i .at) (i .end)
-
--- ANSWERING A LINE
-pub record AnswersLine (s : Stand) (input : Input) (line : Line) (r : Run) (memory' out' : List ℕ) : Type 0 where
-  pub met : Meets (standing (r .rec) (r .output) memory' out') (step s line (dueAt input))
-  pub same : r .input ≡ input
-  -- it goes on after a line feed, as long as no write failed
-  pub goes : r .more ≡ (input .fed && not (r .output .failed))
-
--- after a line was looked for: it is read as a frame; one that lacks its line feed is none; where there is none, or its reading failed, nothing is done
-unfoldable pub tookOne : Stand → Input → List ℕ → Stand
-tookOne s i line =
-    cond (i .fed) (step s (keptLine line (i .kept)) (dueAt i)) (cond (not (i .failed) && ltb 0 (i .kept)) (step s Bad (dueAt i)) s)
-
--- ONE LINE TAKEN AND ANSWERED
-pub record OneLine (s : Stand) (input : Input) (line buffer : List ℕ) (r : Run) (memory' out' line' buffer' : List ℕ) : Type 0 where
-  pub taken : TakesLine input buffer line (r .input) buffer' line'
-  pub met : Meets (standing (r .rec) (r .output) memory' out') (tookOne s (r .input) line')
-  pub goes : r .more ≡ (r .input .fed && not (r .output .failed))
-
--- ---- THE WHOLE
+use Rattle.lines.specs.Taking.{allTurns}
+use Rattle.lines.specs.Waiting.{waiting, Agrees, sure}
+use Rattle.trace.specs.Stepping.{Stand, step}
 
 -- A LINE OF THE INPUT: its text, without its line feed, and whether what waits was written out after its answer
 pub record Asked : Type 0 where
@@ -85,41 +33,52 @@ abbrev pub AllPlain : List Asked → Type 0
 AllPlain [] = Unit {0}
 AllPlain (l ∷ ls) = Plain (l .text) × AllPlain ls
 
--- the lines answered, one after the other
-abbrev pub steps : Stand → List Asked → Stand
-steps s [] = s
-steps s (l ∷ ls) = steps (step s (lineOf (l .text)) (l .due)) ls
-
--- the bytes behind the last line feed: if there are any, they are a line that is no frame
-abbrev pub lastStep : List ℕ → Bool → Stand → Stand
-lastStep [] due s = s
-lastStep (x ∷ xs) due s = step s Bad due
+-- THE INPUT, CUT INTO LINES: what reads into a buffer of n bytes gave
+pub record Cut (n : ℕ) : Type 0 where
+  pub reads : List Read
+  -- each read gave something
+  pub on : Bool
+  -- each is lent the whole buffer, and none follows one that gave nothing
+  pub order : Reads (λ n k. n) n reads on
+  -- the lines that have their line feed
+  pub lines : List Asked
+  pub plain : AllPlain lines
+  -- the last line, which has none; without bytes where there is no such line
+  pub last : Asked
+  pub last-plain : Plain (last .text)
+  -- the bytes that were not answered
+  pub left : List ℕ
+  -- each byte has its place
+  pub all : allGiven reads ≡ bytesOf lines ++ (last .text ++ left)
 
 -- before the first line: the empty record, and nothing waits
 abbrev pub atFirst : List ℕ → List ℕ → Stand
 atFirst memory out = record { heap = empty memory; out = record { used = 0; bytes = out; failed = sure false } }
 
--- ALL WAS ANSWERED: the last read gave nothing, and what was not answered is the text of a line whose reading failed
-pub record AllAnswered (reads : List Read) (on : Bool) (left : List ℕ) : Type 0 where
-  pub ended : on ≡ false
-  pub plain : Plain left
-  pub none : latest (λ r. failing (r .answer)) false reads ≡ false → left ≡ []
+-- the lines' turns, one after the other; each answer line is put behind what waits
+abbrev pub steps : Stand → List Asked → Stand
+steps s [] = s
+steps s (l ∷ ls) = steps (step s (lineOf (l .text)) (l .due)) ls
 
--- EVERY LINE ANSWERED: what the reads gave is lines, each with its line feed, then a last line without one, and then what was not answered; and memory and
--- output buffer are those of these lines' turns, one after the other, from the empty record on
+-- the last line's turn: if it has bytes, it is no frame
+abbrev pub lastStep : List ℕ → Bool → Stand → Stand
+lastStep [] due s = s
+lastStep (x ∷ xs) due s = step s Bad due
+
+-- WHERE THE PROGRAM STANDS AFTER ALL LINES
+abbrev pub ran : List ℕ → List ℕ → {n : ℕ} → Cut n → Stand
+ran memory out c = lastStep (c .last .text) (c .last .due) (steps (atFirst memory out) (c .lines))
+
+-- ALL WAS ANSWERED: the last read gave nothing, and what was not answered is the text of a line whose reading failed
+pub record AllAnswered {n : ℕ} (c : Cut n) : Type 0 where
+  pub ended : c .on ≡ false
+  pub plain : Plain (c .left)
+  pub none : latest (λ r. failing (r .answer)) false (c .reads) ≡ false → c .left ≡ []
+
+-- EVERY LINE ANSWERED: the input can be cut into lines so that memory and output buffer are those of the lines' turns, from the empty record on; and all was
+-- answered, unless a write failed, or there were 2^64 - 1 reads and bytes or more
 pub record Answers (memory out buffer : List ℕ) (r : Output) (memory' out' : List ℕ) : Type 0 where
-  pub reads : List Read
-  -- each read gave something
-  pub on : Bool
-  pub order : Reads (λ n k. n) (length buffer) reads on
-  pub lines : List Asked
-  -- no bytes where there is no such line, or its reading failed
-  pub last : Asked
-  pub left : List ℕ
-  pub plain : AllPlain lines
-  pub last-plain : Plain (last .text)
-  pub all : allGiven reads ≡ bytesOf lines ++ (last .text ++ left)
-  pub words : memory' ≡ lastStep (last .text) (last .due) (steps (atFirst memory out) lines) .heap .words
-  pub waits : Agrees (waiting r out') (lastStep (last .text) (last .due) (steps (atFirst memory out) lines) .out)
-  -- unless a write failed, or reads and bytes are as many as the turns
-  pub done : r .failed ≡ false → length reads + length (allGiven reads) < allTurns → AllAnswered reads on left
+  pub input : Cut (length buffer)
+  pub words : memory' ≡ ran memory out input .heap .words
+  pub waits : Agrees (waiting r out') (ran memory out input .out)
+  pub done : r .failed ≡ false → length (input .reads) + length (allGiven (input .reads)) < allTurns → AllAnswered input

@@ -1,2 +1,3 @@
--- What the contracts cite: what the program leaves of memory and output buffer, line by line.
+-- What the contracts cite: one line answered, and all of them.
+pub mod Stepping
 pub mod Answers

@@ -3,9 +3,13 @@
 // Its memory is 16,383 words set to 0. What a line means and does is in the libraries: crates `frame` (which lines are frames) and `turn`
 // (what a line does to record and memory, and what it is answered). A line of any length is one line; the first eleven bytes tell that it is
 // no frame. A last line without its line feed gets 7. A read or a write that fails ends the program.
+//
+// The contract of `all_lines` is the statement to read (specs/Answers.antt): what the reads gave is cut into lines, and memory and output buffer are
+// those of the lines' turns, one after the other. Where the system is asked to read and to write, and what it then does, no contract can say.
 ghost use Prim.Native.Nat.{_<_};
 ghost use lib.ListN.{length};
-ghost use Rattle.trace.specs.Answers.{standing, AnswersLine, OneLine, Answers};
+ghost use Rattle.trace.specs.Stepping.{standing, AnswersLine, OneLine};
+ghost use Rattle.trace.specs.Answers.{Answers};
 use frame::Line;
 use heap::Record;
 use lines::Input;
@@ -53,12 +57,10 @@ fn all_lines(memory: &mut [u32], out: &mut [u8], line: &mut [u8], buffer: &mut [
 
 // Reads a line and answers it, if there is one. A last line without its line feed is no frame.
 fn one_line(run: Run, memory: &mut [u32], out: &mut [u8], line: &mut [u8], buffer: &mut [u8]) -> Run
-    ensures {
-        λ r. ⌜
-            OneLine (standing (run .rec) (run .output) (now (memory .entry)) (now (out .entry))) (run .input) (now (line .entry)) (now (buffer .entry))
-            r (now (memory .exit)) (now (out .exit)) (now (line .exit)) (now (buffer .exit))
-        ⌝
-    }
+    ensures { λ r. ⌜
+        OneLine (standing (run .rec) (run .output) (now (memory .entry)) (now (out .entry))) (run .input) (now (line .entry)) (now (buffer .entry))
+        r (now (memory .exit)) (now (out .exit)) (now (line .exit)) (now (buffer .exit))
+        ⌝ }
 {
     let before = run.input;
     let rec = run.rec;

@@ -1,4 +1,4 @@
--- `trace::all_lines` is safe and ends. Invariant: memory and buffers keep their lengths. Measure: the turns left, one a line.
+-- `trace::all_lines` meets its contract. Invariant: the lines so far (`Going`), and memory and buffers keep their lengths. Measure: the turns left, one a line.
 use borrow.Author.Needs.{needs}
 use mathlib.Core.Path.{_≡_, refl, sym, _∙_}
 use mathlib.Core.Bool.{true≢false}
@@ -42,12 +42,13 @@ loop-again : tie.Need-loop-again Inv-loop μ-loop
 loop-again c =
     let at = c .before .before .before .before .before .before .before .before .before .before .before .before .before .before .before .loop in
     let line = c .before .before .before .before .before .before .before .before .one-line in
-    let room = c .before .before .before .before .before .before .before .before .before .before .before .before .before .before .before .before .before .before .before .before .before .before .before .pre in
-    (line .kept .1 .0 ∙ at .inv .0,
-    line .kept .1 .1 .0 ∙ at .inv .1,
-    line .kept .1 .1 .1 .0 ∙ at .inv .2,
-    line .kept .1 .1 .1 .1 .0 ∙ at .inv .3,
-    going-on (at .inv .4) (c .before .before .before .before .before .before .before .before .before .before .before .before .before .before .loop-test .taken) (c .before .before .before .before .before .before .before .before .before .before .before .before .before .if1 .taken) (at .inv .3) (omega (arith, at .inv .2, room)) (line .ensures))
+    let room = c .before .before .before .before .before .before .before .before .before .before .before .before .before .before .before .before .before .before .before .before .before .before .before .pre in (
+      line .kept .1 .0 ∙ at .inv .0,
+      line .kept .1 .1 .0 ∙ at .inv .1,
+      line .kept .1 .1 .1 .0 ∙ at .inv .2,
+      line .kept .1 .1 .1 .1 .0 ∙ at .inv .3,
+      going-on (at .inv .4) (c .before .before .before .before .before .before .before .before .before .before .before .before .before .before .loop-test .taken) (c .before .before .before .before .before .before .before .before .before .before .before .before .before .if1 .taken) (at .inv .3) (omega (arith, at .inv .2, room)) (line .ensures),
+    )
 
 same-length : tie.Need-same-length Inv-loop μ-loop
 same-length c = search needs

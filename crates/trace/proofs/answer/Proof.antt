@@ -1,5 +1,4 @@
 -- `trace::answer` meets its contract: the turn, its answer line put, and what waits written out if that is due (`answer-by`).
-use mathlib.Core.Path.{refl, ap, sym}
 use borrow.Author.Needs.{needs}
 use Rattle.trace.proofs.Stepped.{answer-by}
 use Rattle.trace.proofs.answer.Statement.{statement}

@@ -27,7 +27,10 @@ same-length-4 : tie.Need-same-length-4
 same-length-4 c = search needs
 
 returns : tie.Need-returns
-returns c = one-by (c .before .before .before .before .before .before .before .read-kept .result) (c .before .before .before .before .before .before .before .before .before .before .before .before .before .before .next-line .ensures) (took-fed _ _ _ _ (c .before .before .before .before .before .before .before .before .before .if1 .taken) (c .before .before .before .before .before .before .before .read-kept .ensures)) (c .before .before .before .before .answer .ensures)
+returns c =
+    one-by (c .before .before .before .before .before .before .before .read-kept .result) (c .before .before .before .before .before .before .before .before .before .before .before .before .before .before .next-line .ensures)
+    (took-fed _ _ _ _ (c .before .before .before .before .before .before .before .before .before .if1 .taken) (c .before .before .before .before .before .before .before .read-kept .ensures))
+    (c .before .before .before .before .answer .ensures)
 
 answer-requires-2 : tie.Need-answer-requires-2
 answer-requires-2 c κs = search needs
@@ -45,7 +48,10 @@ same-length-8 : tie.Need-same-length-8
 same-length-8 c = search needs
 
 returns-2 : tie.Need-returns-2
-returns-2 c = one-by _ (c .before .before .before .before .before .before .before .before .before .before .before .before .before .before .before .before .next-line .ensures) (took-unfed _ _ _ (c .before .before .before .before .before .before .before .before .before .before .before .if1 .left) (c .before .before .before .before .before .before .before .before .before .if2 .taken) (c .before .before .before .before .before .before .before .if3 .taken)) (c .before .before .before .before .answer2 .ensures)
+returns-2 c =
+    one-by _ (c .before .before .before .before .before .before .before .before .before .before .before .before .before .before .before .before .next-line .ensures)
+    (took-unfed _ _ _ (c .before .before .before .before .before .before .before .before .before .before .before .if1 .left) (c .before .before .before .before .before .before .before .before .before .if2 .taken) (c .before .before .before .before .before .before .before .if3 .taken))
+    (c .before .before .before .before .answer2 .ensures)
 
 same-length-9 : tie.Need-same-length-9
 same-length-9 c = search needs
