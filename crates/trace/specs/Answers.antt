@@ -39,7 +39,7 @@ pub record Cut (n : ℕ) : Type 0 where
   -- each read gave something
   pub on : Bool
   -- each is lent the whole buffer, and none follows one that gave nothing
-  pub order : Reads (λ n k. n) n reads on
+  pub order : Reads (λ m k. m) n reads on
   -- the lines that have their line feed
   pub lines : List Asked
   pub plain : AllPlain lines
