@@ -1,5 +1,5 @@
 -- WHAT THE PROGRAM DOES (document 01, "Trace frames"): the statement to read is `Answers`, at the end. Which bytes the system gives no contract can say, nor
--- what it does with those written out: the statement speaks of reads that may have been, and of the bytes that wait to be written.
+-- what it does with those written out: the statement speaks of reads that may have been, not that they were made, and of the bytes that wait to be written.
 use mathlib.Core.Path.{_≡_}
 use mathlib.Core.Bool.{Bool, false}
 use mathlib.Core.List.{List, [], _∷_, _++_, List·Memᴰ}
