@@ -5,8 +5,8 @@
 // no frame. A last line without its line feed gets 7. A read or a write that fails ends the program.
 //
 // The contract of `all_lines` is the statement to read (specs/Answers.antt): what the reads gave is cut into lines, and memory and output buffer are
-// those of the lines' turns, one after the other. Which bytes the system gives, and what it does with those written out, no contract can say. The
-// same reads leave the same memory (proofs/Determined.antt).
+// those of the lines' turns, one after the other. Which bytes the system gives, and what it does with those written out, no contract can say. Where no
+// read and no write failed, and reads and bytes are fewer than 2^64 - 1, the same reads leave the same memory (proofs/Determined.antt).
 ghost use Prim.Native.Nat.{_<_};
 ghost use lib.ListN.{length};
 ghost use Rattle.trace.specs.Stepping.{standing, AnswersLine, OneLine};
