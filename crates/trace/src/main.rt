@@ -3,8 +3,14 @@
 // Its memory is 16,383 words set to 0. What a line means and does is in the libraries: crates `frame` (which lines are frames) and `turn`
 // (what a line does to record and memory, and what it is answered). A line of any length is one line; the first eleven bytes tell that it is
 // no frame. A last line without its line feed gets 7. A read or a write that fails ends the program.
-ghost use Prim.Native.Nat.{_≤_};
+//
+// The contract of `all_lines` is the statement to read (specs/Answers.antt): what the reads gave is cut into lines, and memory and output buffer are
+// those of the lines' turns, one after the other. Which bytes the system gives, and what it does with those written out, no contract can say. Where no
+// read and no write failed, and reads and bytes are fewer than 2^64 - 1, the same reads leave the same memory (proofs/Determined.antt).
+ghost use Prim.Native.Nat.{_<_};
 ghost use lib.ListN.{length};
+ghost use Rattle.trace.specs.Stepping.{standing, AnswersLine, OneLine};
+ghost use Rattle.trace.specs.Answers.{Answers};
 use frame::Line;
 use heap::Record;
 use lines::Input;
@@ -33,7 +39,8 @@ fn main() {
 
 // Answers every line of the input.
 fn all_lines(memory: &mut [u32], out: &mut [u8], line: &mut [u8], buffer: &mut [u8]) -> Output
-    requires { ⌜ 19 ≤ length (now out) ⌝ }
+    requires { ⌜ 10 < length (now line) ⌝ }
+    ensures { λ r. ⌜ Answers (now (memory .entry)) (now (out .entry)) (now (buffer .entry)) r (now (memory .exit)) (now (out .exit)) ⌝ }
 {
     let mut run = Run {
         rec: Record::empty(),
@@ -51,7 +58,10 @@ fn all_lines(memory: &mut [u32], out: &mut [u8], line: &mut [u8], buffer: &mut [
 
 // Reads a line and answers it, if there is one. A last line without its line feed is no frame.
 fn one_line(run: Run, memory: &mut [u32], out: &mut [u8], line: &mut [u8], buffer: &mut [u8]) -> Run
-    requires { ⌜ 19 ≤ length (now out) ⌝ }
+    ensures { λ r. ⌜
+        OneLine (standing (run .rec) (run .output) (now (memory .entry)) (now (out .entry))) (run .input) (now (line .entry)) (now (buffer .entry))
+        r (now (memory .exit)) (now (out .exit)) (now (line .exit)) (now (buffer .exit))
+        ⌝ }
 {
     let before = run.input;
     let rec = run.rec;
@@ -81,7 +91,7 @@ fn answer(
     out: &mut [u8],
     line: Line,
 ) -> Run
-    requires { ⌜ 19 ≤ length (now out) ⌝ }
+    ensures { λ r. ⌜ AnswersLine (standing rec output (now (memory .entry)) (now (out .entry))) input line r (now (memory .exit)) (now (out .exit)) ⌝ }
 {
     let reply = turn::turn(rec, memory, line);
     let next = reply.rec;
