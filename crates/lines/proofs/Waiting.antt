@@ -1,8 +1,8 @@
 -- LAWS of `specs/Waiting.antt`, from the tests and the callees' contracts as the code has them. Assumes nothing.
---     agrees-same                                            what stands agrees with itself
+--     agrees-same, agrees-on                                 what stands agrees with itself, and with what that agrees with
 --     flush-none, flush-failed, flush-missing, flush-tried   the ways through a flush
 --     room-there, room-made, room-fits                       there is room, it is made, and then so many bytes fit
---     put-on                                                 a put after a put: what is known of the first goes on into the second
+--     flush-on, put-on                                       a flush or a put after another call: what is known of that goes on into it
 --     put-short, put-short-on, put-by                        a buffer that takes nothing; room made and bytes placed
 --     set-placed, field-placed, answer-placed                a byte, digits, an answer line, as the code lays them behind what waits
 --     all-none, all-on, all-done                             bytes one after the other: the start, a turn, the end
@@ -23,7 +23,7 @@ use Rattle.frame.specs.Hex.{digitsOf}
 use Rattle.frame.specs.Answer.{answerBytes, answered}
 use Rattle.frame.proofs.Laws.Answer.{answered-all}
 use Rattle.lines.specs.declared.output.Output.{Output}
-use Rattle.lines.specs.Waiting.{Known, sure, unsure, Buffered, waiting, Allows, Agrees, tried, refused, failureOf, flushed, roomFor, placed, put, putAll, putLines}
+use Rattle.lines.specs.Waiting.{Known, sure, unsure, Buffered, waiting, Allows, Agrees, tried, refused, failureOf, flushed, flushedIf, roomFor, placed, put, putAll, putLines}
 
 -- ---- WHAT IS KNOWN
 
@@ -53,7 +53,7 @@ pub agrees-same : (b : Buffered) → Agrees b b
 agrees-same b = record { used = refl; bytes = refl; failed = allows-same (b .failed) }
 
 -- and with what agrees with it
-agrees-on : (a b w : Buffered) → Agrees a b → Agrees b w → Agrees a w
+pub agrees-on : (a b w : Buffered) → Agrees a b → Agrees b w → Agrees a w
 agrees-on a b w p q =
     record { used = p .used ∙ q .used; bytes = p .bytes ∙ q .bytes; failed = allows-on (w .failed) (b .failed) (a .failed) (q .failed) (p .failed) }
 
@@ -82,6 +82,11 @@ flushed-steady u bs k l p = record { used = refl; bytes = refl; failed = go (eqb
     go true t = p
     go false true = allows-tried k l p
     go false false = refl
+
+-- what waits is written out if that is due: what is known before it goes on
+pub flush-on : (due : Bool) (a b w : Buffered) → Agrees b w → Agrees a (flushedIf due b) → Agrees a (flushedIf due w)
+flush-on true a b w p q = agrees-on a (flushed b) (flushed w) q (steady-keeps flushed flushed-steady b w p)
+flush-on false a b w p q = agrees-on a b w q p
 
 -- a failure stays
 pub failure-stays : (b : Buffered) → b .failed ≡ sure true → failureOf b ≡ sure true

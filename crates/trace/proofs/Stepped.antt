@@ -5,12 +5,11 @@
 --     no-unfed                         reading failed, or nothing is kept
 --     one-by, one-none                 a line taken and answered, or none
 use mathlib.Core.Path.{_≡_, refl, sym, ap, _∙_, subst}
-use mathlib.Core.Bool.{Bool, true, false, not, _&&_, cond, and-false}
+use mathlib.Core.Bool.{Bool, true, false, not, _&&_, and-false}
 use mathlib.Core.Logic.{_⊎_, inl, inr}
 use mathlib.Core.List.{List}
 use Prim.Native.Nat.{ℕ}
-use lib.Dec.{eqb, leb, ltb}
-use lib.ListN.{length}
+use lib.Dec.{ltb}
 use Rattle.rules.specs.Rules.{Outcome}
 use Rattle.rules.specs.Making.{State}
 use Rattle.heap.specs.declared.record.Record.{Record}
@@ -24,43 +23,10 @@ use Rattle.turn.specs.Told.{outcomeOf}
 use Rattle.lines.specs.declared.input.Input.{Input}
 use Rattle.lines.specs.declared.output.Output.{Output}
 use Rattle.lines.specs.Taking.{TakesLine, keptLine}
-use Rattle.lines.specs.Waiting.{Known, sure, unsure, Buffered, waiting, Allows, Agrees, tried, failureOf, flushed, flushedIf, put}
-use Rattle.lines.proofs.Waiting.{agrees-same, put-on}
+use Rattle.lines.specs.Waiting.{waiting, Agrees, flushedIf, put}
+use Rattle.lines.proofs.Waiting.{agrees-same, agrees-on, flush-on, put-on}
 use Rattle.trace.specs.declared.Run.{Run}
 use Rattle.trace.specs.Stepping.{Stand, standing, step, Meets, dueAt, AnswersLine, tookOne, OneLine}
-
--- ---- the output buffer
-
--- what is allowed by what is allowed
-allows-on : (k l m : Known) → Allows k l → Allows l m → Allows k m
-allows-on (sure b) l m p q = rw p at q
-allows-on unsure l m p q = tt
-
--- after a write too
-allows-tried : (k l : Known) → Allows k l → Allows (tried k) (tried l)
-allows-tried (sure true) l p = rw p refl
-allows-tried (sure false) l p = tt
-allows-tried unsure l p = tt
-
--- what is known of a failure after what waits is written out goes on from what was known before
-failure-on : (b w : Buffered) → Agrees b w → Allows (failureOf w) (failureOf b)
-unfolding failureOf
-failure-on b w p = rw (p .used, p .bytes) (go (eqb (w .used) 0) (leb (w .used) (length (w .bytes))))
-  where
-    go : (s t : Bool) → Allows (cond s (w .failed) (cond t (tried (w .failed)) (sure true))) (cond s (b .failed) (cond t (tried (b .failed)) (sure true)))
-    go true t = p .failed
-    go false true = allows-tried (w .failed) (b .failed) (p .failed)
-    go false false = refl
-
--- what agrees with what agrees
-agrees-on : (a b w : Buffered) → Agrees a b → Agrees b w → Agrees a w
-agrees-on a b w p q =
-    record { used = p .used ∙ q .used; bytes = p .bytes ∙ q .bytes; failed = allows-on (w .failed) (b .failed) (a .failed) (q .failed) (p .failed) }
-
--- what waits is written out if that is due, on what agrees with w
-flush-on : (due : Bool) (a b w : Buffered) → Agrees b w → Agrees a (flushedIf due b) → Agrees a (flushedIf due w)
-flush-on true a b w p q = agrees-on a (flushed b) (flushed w) q (record { used = refl; bytes = p .bytes; failed = failure-on b w p })
-flush-on false a b w p q = agrees-on a b w q p
 
 -- ---- a line answered
 
