@@ -25,6 +25,11 @@
  *
  * A slice of Rattle is a pointer and a 64-bit count in C, on every processor. `rt staticlib door` builds the library for
  * x86-64, `meter/build` for a Cortex-M4; the assertions at the end of this file stop a compiler that lays things out otherwise.
+ *
+ * Header and library belong together. What crosses the door has a layout with a number, LISCHEMUR_LAYOUT, and the library's
+ * functions carry it in their names. If the linker says that lischemur_make_needs_library_of_layout_2 is undefined (the number
+ * is this header's), the library is of another layout: take header and library from the same build. If it says that
+ * lischemur_make is, a source was compiled with a header from before layout 2: compile it again with this one.
  */
 #ifndef LISCHEMUR_H
 #define LISCHEMUR_H
@@ -41,6 +46,24 @@ extern "C" {
 #define LISCHEMUR_ALIGNED(bytes) _Alignas(bytes)
 #define LISCHEMUR_ASSERT(holds, text) _Static_assert(holds, text)
 #endif
+
+/* The version, and the number of the layout of what crosses the door, which is the version's second number too. */
+#define LISCHEMUR_VERSION "0.2.0"
+#define LISCHEMUR_LAYOUT 2
+
+/* The library's name of each function, by which programs of another layout do not link. */
+#define LISCHEMUR_NAMED(name, layout) name##_needs_library_of_layout_##layout
+#define LISCHEMUR_OF(name, layout) LISCHEMUR_NAMED(name, layout)
+#define lischemur_make LISCHEMUR_OF(lischemur_make, LISCHEMUR_LAYOUT)
+#define lischemur_hand_out LISCHEMUR_OF(lischemur_hand_out, LISCHEMUR_LAYOUT)
+#define lischemur_take_back LISCHEMUR_OF(lischemur_take_back, LISCHEMUR_LAYOUT)
+#define lischemur_audit LISCHEMUR_OF(lischemur_audit, LISCHEMUR_LAYOUT)
+#define lischemur_write_map LISCHEMUR_OF(lischemur_write_map, LISCHEMUR_LAYOUT)
+#define lischemur_mark LISCHEMUR_OF(lischemur_mark, LISCHEMUR_LAYOUT)
+#define lischemur_in_use LISCHEMUR_OF(lischemur_in_use, LISCHEMUR_LAYOUT)
+#define lischemur_committed LISCHEMUR_OF(lischemur_committed, LISCHEMUR_LAYOUT)
+#define lischemur_peak LISCHEMUR_OF(lischemur_peak, LISCHEMUR_LAYOUT)
+#define lischemur_high_water LISCHEMUR_OF(lischemur_high_water, LISCHEMUR_LAYOUT)
 
 /* The limits: a heap has an odd count of words, and a size above the largest is refused. */
 #define LISCHEMUR_LEAST_WORDS UINT32_C(5)

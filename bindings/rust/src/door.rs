@@ -5,6 +5,9 @@
 
 use core::mem::{align_of, offset_of, size_of};
 
+/// The number of the layout that record and replies have. The archive's names carry it, so that one of another layout does not link.
+pub const LAYOUT: u32 = 2;
+
 /// What the heap keeps between calls: plain data, and any contents are accepted.
 ///
 /// Links 0 to 5 name the sentinels of the six lists; the header at word w has link w + 6.
@@ -98,9 +101,11 @@ const _: () = assert!(offset_of!(Marking, rec) == 12);
 #[link(name = "door", kind = "static")]
 extern "C" {
     /// Make a heap of all `len` words at `heap`; `words` must say the same number.
+    #[link_name = "lischemur_make_needs_library_of_layout_2"]
     pub(crate) fn lischemur_make(rec: *mut Record, heap: *mut u32, len: usize, words: u32)
         -> Reply;
     /// Hand out a payload of at least `size` bytes, all of it 0.
+    #[link_name = "lischemur_hand_out_needs_library_of_layout_2"]
     pub(crate) fn lischemur_hand_out(
         rec: *mut Record,
         heap: *mut u32,
@@ -108,6 +113,7 @@ extern "C" {
         size: u32,
     ) -> Reply;
     /// Take back the payload that begins at this offset.
+    #[link_name = "lischemur_take_back_needs_library_of_layout_2"]
     pub(crate) fn lischemur_take_back(
         rec: *mut Record,
         heap: *mut u32,
@@ -115,8 +121,10 @@ extern "C" {
         payload: u32,
     ) -> Reply;
     /// Whether the record and these words are sound: 1 or 0.
+    #[link_name = "lischemur_audit_needs_library_of_layout_2"]
     pub(crate) fn lischemur_audit(rec: Record, heap: *const u32, len: usize) -> u32;
     /// Write the heap's map at the start of the room, a line for each chunk.
+    #[link_name = "lischemur_write_map_needs_library_of_layout_2"]
     pub(crate) fn lischemur_write_map(
         rec: Record,
         heap: *const u32,
@@ -125,13 +133,18 @@ extern "C" {
         room_len: usize,
     ) -> Reply;
     /// The mark, if high water has risen, and the record with its flag off.
+    #[link_name = "lischemur_mark_needs_library_of_layout_2"]
     pub(crate) fn lischemur_mark(rec: Record, stacklets: u32) -> Marking;
     /// What tasks hold.
+    #[link_name = "lischemur_in_use_needs_library_of_layout_2"]
     pub(crate) fn lischemur_in_use(rec: Record) -> u32;
     /// That and the cached chunk.
+    #[link_name = "lischemur_committed_needs_library_of_layout_2"]
     pub(crate) fn lischemur_committed(rec: Record) -> u32;
     /// The most bytes that were committed.
+    #[link_name = "lischemur_peak_needs_library_of_layout_2"]
     pub(crate) fn lischemur_peak(rec: Record) -> u32;
     /// The largest end of a chunk that was handed out.
+    #[link_name = "lischemur_high_water_needs_library_of_layout_2"]
     pub(crate) fn lischemur_high_water(rec: Record) -> u32;
 }

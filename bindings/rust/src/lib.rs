@@ -39,12 +39,15 @@
 #![warn(missing_docs)]
 #![deny(unsafe_op_in_unsafe_fn)]
 
+/// The version, which is the C header's too. Its second number is [`LAYOUT`].
+pub const VERSION: &str = env!("CARGO_PKG_VERSION");
+
 mod door;
 mod heap;
 mod memory;
 mod refusal;
 
-pub use door::Record;
+pub use door::{Record, LAYOUT};
 pub use heap::{map_room, Heap, Offset, MAP_LINE};
 #[cfg(target_has_atomic = "8")]
 pub use memory::StaticMemory;
