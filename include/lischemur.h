@@ -1,5 +1,5 @@
 /*
- * lischemur.h: the heap's door, for C11 and C++17. Link libdoor.a; it needs nothing else.
+ * lischemur.h: the heap's door, for C99 and later and C++11 and later. Link libdoor.a; it needs nothing else.
  *
  * A heap is a run of 32-bit words that you lend to each call, and a record beside it. Both are yours: the library keeps
  * nothing between calls. Offsets are bytes from the run's start, and a payload is named by its offset.
@@ -34,17 +34,28 @@
 #ifndef LISCHEMUR_H
 #define LISCHEMUR_H
 
+#if defined(__cplusplus) ? __cplusplus < 201103L : !defined(__STDC_VERSION__) || __STDC_VERSION__ < 199901L
+#error "lischemur.h needs C99 or C++11: compile with -std=c99, -std=c++11 or later"
+#elif !defined(__cplusplus) && __STDC_VERSION__ < 201112L && !defined(__GNUC__)
+#error "lischemur.h needs C11 from a compiler without GNU's __attribute__: C99 alone cannot align LISCHEMUR_MEMORY"
+#else
+
 #include <stdbool.h>
 #include <stddef.h>
 #include <stdint.h>
 
-#ifdef __cplusplus
+#if defined(__cplusplus)
 #define LISCHEMUR_ALIGNED(bytes) alignas(bytes)
 #define LISCHEMUR_ASSERT(holds, text) static_assert(holds, text)
 extern "C" {
-#else
+#elif __STDC_VERSION__ >= 201112L
 #define LISCHEMUR_ALIGNED(bytes) _Alignas(bytes)
 #define LISCHEMUR_ASSERT(holds, text) _Static_assert(holds, text)
+#else
+#define LISCHEMUR_ALIGNED(bytes) __attribute__((aligned(bytes)))
+#define LISCHEMUR_ASSERTED(line) lischemur_asserted_in_line_##line
+#define LISCHEMUR_ASSERT_IN(holds, line) typedef char LISCHEMUR_ASSERTED(line)[(holds) ? 1 : -1]
+#define LISCHEMUR_ASSERT(holds, text) LISCHEMUR_ASSERT_IN(holds, __LINE__)
 #endif
 
 /* The version, and the number of the layout of what crosses the door, which is the version's second number too. */
@@ -70,7 +81,7 @@ extern "C" {
 #define LISCHEMUR_MOST_WORDS UINT32_C(65529)
 #define LISCHEMUR_MOST_SIZE UINT32_C(4294967284)
 
-/* The bytes of a map's line, and of room that suffices for the map of any heap of so many words, 5 or more. */
+/* The bytes of a map's line, and of room that suffices for the map of any heap of that many words, 5 or more. */
 #define LISCHEMUR_MAP_LINE UINT32_C(19)
 #define LISCHEMUR_MAP_ROOM(words) (((words) - 1) / 4 * LISCHEMUR_MAP_LINE)
 
@@ -92,10 +103,12 @@ enum lischemur_number {
     LISCHEMUR_NO_FIT = 3,     /* neither the cached chunk nor a listed one serves */
     LISCHEMUR_NOT_LIVE = 4,   /* the offset is no payload's that is handed out: a second free, say */
     LISCHEMUR_DAMAGED = 5,    /* record and words are not sound together, or no heap was made */
-    LISCHEMUR_BAD_LENGTH = 6, /* a heap cannot be made of so many words */
-    LISCHEMUR_NO_ROOM = 6,    /* the map is longer than the room */
+    LISCHEMUR_BAD_LENGTH = 6, /* from making: a heap cannot be made of that many words */
     LISCHEMUR_NO_FRAME = 7    /* the trace program's alone: no call here replies it */
 };
+
+/* From the map's call, the same 6: the map is longer than the room. One number, so a switch has one case for both names. */
+#define LISCHEMUR_NO_ROOM LISCHEMUR_BAD_LENGTH
 
 /*
  * What the heap knows beside its words. All bytes zero is the empty record, as static memory is at reset. Read it as you
@@ -155,7 +168,7 @@ uint32_t lischemur_audit(lischemur_record record, const uint32_t *heap, uint64_t
 lischemur_reply lischemur_write_map(
     lischemur_record record, const uint32_t *heap, uint64_t heap_words, char *room, uint64_t room_bytes);
 
-/* The mark: high water less 108 bytes for each of so many stacklets, if it has risen since it was last read. */
+/* The mark: high water less 108 bytes for each stacklet, if it has risen since it was last read. */
 lischemur_marking lischemur_mark(lischemur_record record, uint32_t stacklets);
 
 /*
@@ -210,4 +223,5 @@ LISCHEMUR_ASSERT(sizeof(lischemur_marking) == 64, "the marking's size");
 }
 #endif
 
-#endif
+#endif /* C99 or C++11 */
+#endif /* LISCHEMUR_H */
