@@ -81,6 +81,23 @@ extern "C" {
 #define LISCHEMUR_MOST_WORDS UINT32_C(65529)
 #define LISCHEMUR_MOST_SIZE UINT32_C(4294967284)
 
+/*
+ * How large a heap has to be. A payload takes a chunk of LISCHEMUR_CHUNK(size) bytes, or of 8 more if those would be left over. A search for less
+ * than 512 bytes looks only at chunks of at least the next power of two, so the free chunk that serves a size has LISCHEMUR_SERVES(size) bytes or
+ * more, and 3, no fit, is replied though a shorter one would hold the payload: a just-made heap of 127 words is one free chunk of 504 bytes and
+ * refuses 245 bytes, which would take 256 of them, since 512 are looked for. A just-made heap of LISCHEMUR_WORDS(count, size) words, and none of
+ * fewer, serves `count` handouts of `size` bytes each before any is taken back. For constants, as in LISCHEMUR_MEMORY(LISCHEMUR_WORDS(20, 48)): an
+ * argument is evaluated more than once. `size` is from 1 to 262,108, the most that the largest heap serves.
+ */
+#define LISCHEMUR_CHUNK(size) ((size) <= 12 ? UINT32_C(16) : ((size) + UINT32_C(11)) / 8 * 8)
+#define LISCHEMUR_SERVES(size)                                                                         \
+    (LISCHEMUR_CHUNK(size) >= 512 ? LISCHEMUR_CHUNK(size)                                              \
+        : LISCHEMUR_CHUNK(size) >= 256 ? UINT32_C(512)                                                 \
+        : LISCHEMUR_CHUNK(size) >= 128 ? UINT32_C(256)                                                 \
+        : LISCHEMUR_CHUNK(size) >= 64 ? UINT32_C(128)                                                  \
+        : LISCHEMUR_CHUNK(size) >= 32 ? UINT32_C(64) : UINT32_C(32))
+#define LISCHEMUR_WORDS(count, size) ((((count) - 1) * LISCHEMUR_CHUNK(size) + LISCHEMUR_SERVES(size)) / 4 + 1)
+
 /* The bytes of a map's line, and of room that suffices for the map of any heap of that many words, 5 or more. */
 #define LISCHEMUR_MAP_LINE UINT32_C(19)
 #define LISCHEMUR_MAP_ROOM(words) (((words) - 1) / 4 * LISCHEMUR_MAP_LINE)
@@ -100,7 +117,7 @@ enum lischemur_number {
     LISCHEMUR_DONE = 0,       /* the value is the payload's offset for a handout, the number of lines for a map, else 0 */
     LISCHEMUR_ZERO_SIZE = 1,  /* zero bytes were asked for */
     LISCHEMUR_TOO_LARGE = 2,  /* more than LISCHEMUR_MOST_SIZE bytes were asked for */
-    LISCHEMUR_NO_FIT = 3,     /* neither the cached chunk nor a listed one serves */
+    LISCHEMUR_NO_FIT = 3,     /* neither the cached chunk nor a listed one serves; a listed one has to reach LISCHEMUR_SERVES(size) */
     LISCHEMUR_NOT_LIVE = 4,   /* the offset is no payload's that is handed out: a second free, say */
     LISCHEMUR_DAMAGED = 5,    /* record and words are not sound together, or no heap was made */
     LISCHEMUR_BAD_LENGTH = 6, /* from making: a heap cannot be made of that many words */
@@ -191,6 +208,17 @@ static inline uint32_t lischemur_offset(const uint32_t *heap, const void *payloa
 {
     uintptr_t offset = (uintptr_t)payload - (uintptr_t)heap;
     return offset < UINT32_MAX ? (uint32_t)offset : UINT32_MAX;
+}
+
+/* The largest size that a free chunk of this length serves, as the map shows it; 0 if it serves none. */
+static inline uint32_t lischemur_served(uint32_t chunk)
+{
+    uint32_t power = 512;
+    if (chunk >= 512)
+        return chunk - 4;
+    while (power > chunk)
+        power /= 2;
+    return power < 32 ? 0 : power - 12;
 }
 
 /* Whether payloads of a heap that starts here are 8-aligned. */
