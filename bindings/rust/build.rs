@@ -6,8 +6,8 @@ use std::env;
 use std::path::PathBuf;
 use std::process::exit;
 
-/// The target of the archive that `rt staticlib door` writes.
-const COMPUTER: &str = "x86_64-unknown-linux-gnu";
+/// The targets of the archive that `rt staticlib door` writes.
+const COMPUTERS: [&str; 2] = ["x86_64-unknown-linux-gnu", "x86_64-unknown-linux-musl"];
 
 /// The microcontrollers' targets: the processor and the float ABI that `meter/build` is to be told, and
 /// how the archive's names end. `meter/parts` has the whole list.
@@ -50,7 +50,7 @@ fn refuse(text: &str) -> ! {
 
 /// The folder of the repository's `target` that has a target's archive, and what makes it there.
 fn kept(target: &str) -> (String, String) {
-    if target == COMPUTER {
+    if COMPUTERS.contains(&target) {
         return ("staticlib".into(), "rt staticlib door".into());
     }
     match PARTS.iter().find(|part| part.0 == target) {
@@ -59,8 +59,9 @@ fn kept(target: &str) -> (String, String) {
             format!("meter/build --cpu {cpu} --float {float}"),
         ),
         None => refuse(&format!(
-            "there is no archive for {target}, only for {COMPUTER}, {}. For another target compile the proved \
+            "there is no archive for {target}, only for {}, {}. For another target compile the proved \
              module as meter/build does, and name the folder of its libdoor.a in LISCHEMUR_LIB",
+            COMPUTERS.join(", "),
             PARTS.map(|part| part.0).join(", ")
         )),
     }
