@@ -179,11 +179,23 @@ release-room ws x n w e f g h hx hn ew ee ef eg =
     let hr = h .right in
     (omega arith, omega arith)
 
+-- what is linked in the end is the rules' merged chunk, and that is the release of the chunk between its free neighbours
+merged-by : (s u : State) (w e f n g i m : ℕ) → e ≡ rightOf w n → i ≡ w - f / 4 → m ≡ f + (n + g) → u ≡ merge base (ltb 0 f) (ltb 0 g) s (i + 6) (e + 6)
+    → link base (clearLeft base (markFree base u i m) (rightOf i m)) (classOf m) (i + 6) ≡ merged base s w f n g
+unfolding merged
+merged-by s u w e f n g i m ee ei em eu = rw (eu, em, ei, ee)
+
+released-between : (r : Record) (ws : List ℕ) (w e f n g : ℕ) → e ≡ rightOf w n → f ≡ leftFreeIn ws w → g ≡ rightFreeIn ws e
+    → merged base (seen r ws) w f n g ≡ releaseChunk base (seen r ws) w n
+unfolding releaseChunk leftFree rightFree leftFreeIn rightFreeIn
+released-between r ws w e f n g ee ef eg = rw (ef, eg, ee)
+
 pub release-by : (r a q : Record) (ws ws1 ws2 ws3 ws4 : List ℕ) (x n w e f g i m l y j k : ℕ) (b d : Bool) → Releasable ws x n → n < 2 ^ 32 → x < 65536
     → w ≡ x - 6 → e ≡ rightOf w n % 2 ^ 64 → f ≡ leftFreeIn ws w → g ≡ rightFreeIn ws e → i ≡ w - f / 4 → m ≡ f + (n + g) → l ≡ heldName links i
-    → b ≡ ltb 0 f → d ≡ ltb 0 g → y ≡ heldName links e → seen a ws1 ≡ merge base b d (seen r ws) l y → ws2 ≡ freed ws1 i m → j ≡ rightOf i m % 2 ^ 64 → ws3 ≡ changed leftFreed ws2 j
+    → b ≡ ltb 0 f → d ≡ ltb 0 g → y ≡ heldName links e → seen a ws1 ≡ merge base b d (seen r ws) l y
+    → ws2 ≡ freed ws1 i m → j ≡ rightOf i m % 2 ^ 64 → ws3 ≡ changed leftFreed ws2 j
     → k ≡ classOf m → m < 2 ^ 32 → seen q ws4 ≡ link base (seen a ws3) k l → seen q ws4 ≡ releaseChunk base (seen r ws) (x - 6) n
-unfolding releaseChunk merged leftFree rightFree leftFreeIn rightFreeIn clearLeft markFree freed changed
+unfolding clearLeft markFree freed changed
 release-by r a q ws ws1 ws2 ws3 ws4 x n w e f g i m l y j k b d h hn hx ew ee ef eg ei em el eb ed ey ea e2 ej e3 ek hm eq =
     let pe : e ≡ rightOf w n = right-place w n e (omega arith) hn ee in
     let room : x + n / 4 < 65536 = let q = h .right in omega arith in
@@ -192,7 +204,9 @@ release-by r a q ws ws1 ws2 ws3 ws4 x n w e f g i m l y j k b d h hn hx ew ee ef
     let pj : j ≡ rightOf i m = right-place i m j (omega arith) hm ej in
     let off : seen a ws1 ≡ merge base (ltb 0 f) (ltb 0 g) (seen r ws) (i + 6) (e + 6) = ea ∙ rw (pl, py, eb, ed) refl in
     let tagged : seen a ws3 ≡ clearLeft base (markFree base (seen a ws1) i m) (rightOf i m) = rw (e3, e2, pj) refl in
-    eq ∙ rw (ek, pl) (ap (λ (s : State). link base s (classOf m) (i + 6)) (tagged ∙ ap (λ (s : State). clearLeft base (markFree base s i m) (rightOf i m)) off) ∙ rw (em, ei, ef, eg, pe, ew) refl)
+    eq ∙ rw (ek, pl) (ap (λ (s : State). link base s (classOf m) (i + 6)) tagged)
+    ∙ merged-by (seen r ws) (seen a ws1) w e f n g i m pe ei em off ∙ released-between r ws w e f n g pe ef eg
+    ∙ ap (λ (v : ℕ). releaseChunk base (seen r ws) v n) ew
 
 -- SEARCHING: the rules' first fit on a record and its words
 pub first-fit-is : (sound : State → Bool) (r : Record) (ws : List ℕ) (z : ℕ)
