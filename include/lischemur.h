@@ -20,8 +20,7 @@
  *   - `heap` is not null, not even for 0 words, is aligned for uint32_t, and is followed by `heap_words` words;
  *   - `room` is not null, not even for 0 bytes, and is followed by `room_bytes` bytes;
  *   - record, words and room do not overlap, and nothing else reads or writes them during a call (mask interrupts, or hold
- *     a lock);
- *   - `fresh` holds true or false, as a bool does.
+ *     a lock).
  *
  * A slice of Rattle is a pointer and a 64-bit count in C, on every processor. `rt staticlib door` builds the library for
  * x86-64, `meter/build` for a Cortex-M4; the assertions at the end of this file stop a compiler that lays things out otherwise.
@@ -87,7 +86,7 @@ typedef struct lischemur_record {
     uint32_t peak;      /* the largest that committed has been */
     uint32_t high;      /* high water: the largest end, in bytes, of a chunk that was handed out */
     uint16_t cached;    /* the link of the cached chunk, 0 for none */
-    bool fresh;         /* high water has risen since the mark was last read */
+    uint16_t fresh;     /* 1 if high water has risen since the mark was last read, else 0; any other value is damaged */
 } lischemur_record;
 
 /* What making, handing out, taking back and writing the map reply. */
@@ -163,7 +162,6 @@ static inline bool lischemur_aligned(const uint32_t *heap)
     return (uintptr_t)heap % 8 == 4;
 }
 
-LISCHEMUR_ASSERT(sizeof(bool) == 1, "the record's layout");
 LISCHEMUR_ASSERT(offsetof(lischemur_record, prev) == 0, "the record's layout");
 LISCHEMUR_ASSERT(offsetof(lischemur_record, next) == 12, "the record's layout");
 LISCHEMUR_ASSERT(offsetof(lischemur_record, words) == 24, "the record's layout");

@@ -27,8 +27,8 @@ pub struct Record {
     pub high: u32,
     /// The cached chunk's link; 0 if there is none.
     pub cached: u16,
-    /// Whether high water has risen since the mark was last read.
-    pub fresh: bool,
+    /// 1 if high water has risen since the mark was last read, else 0; any other value is damaged.
+    pub fresh: u16,
 }
 
 impl Record {
@@ -42,7 +42,7 @@ impl Record {
         peak: 0,
         high: 0,
         cached: 0,
-        fresh: false,
+        fresh: 0,
     };
 }
 
