@@ -37,8 +37,8 @@ use Rattle.heap.specs.declared.record.Record.{Record}
 use Rattle.heap.specs.declared.calls.Answer.{Answer}
 use Rattle.heap.specs.declared.calls.Answer.the-variants.{Done, ZeroSize, TooLarge, NoFit, NotLive, Damaged, BadLength}
 use Rattle.heap.specs.Seen.{seen, base, figuresOf, withCached, countedIn, countedOut, emptyRecord, freshRecord}
-use Rattle.heap.specs.Chunk.{freed, leftFreeIn, rightFreeIn, emptiedIn, Releasable}
-use Rattle.heap.proofs.Clears.{emptied-seen}
+use Rattle.steps.specs.Chunk.{freed, leftFreeIn, rightFreeIn, emptiedIn, Releasable}
+use Rattle.heap.proofs.Joins.{emptied-seen}
 use Rattle.heap.specs.Answer.{outcome, soundAt, servedBy, cacheServes, Served}
 use Rattle.audit.specs.Shown.{cachedOf}
 use Rattle.rules.proofs.Store.{Edition}

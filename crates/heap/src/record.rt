@@ -54,8 +54,6 @@ impl Record {
 
     pub const LEAST_CHUNK: u32 = 16;
 
-    pub const FREE_CHUNK_MIN_SIZE: u32 = 12;
-
     pub const SLACK: u32 = 512;
 
     pub const STACKLET: u64 = 108;
@@ -183,9 +181,9 @@ impl Record {
         self.in_use += m;
         let sum = self.committed + m;
         self.committed = sum;
-        self.peak = larger(self.peak, sum);
-        self.fresh = risen(self.high, end, self.fresh);
-        self.high = larger(self.high, end);
+        self.peak = steps::larger(self.peak, sum);
+        self.fresh = steps::risen(self.high, end, self.fresh);
+        self.high = steps::larger(self.high, end);
         self
     }
 
@@ -194,29 +192,8 @@ impl Record {
         ensures { λ r. ⌜ r ≡ countedOut self held n newer ⌝ }
     {
         self.in_use = held;
-        self.committed = less(self.committed, n);
+        self.committed = steps::less(self.committed, n);
         self.cached = newer;
         self
     }
-}
-
-// The larger of two numbers.
-fn larger(a: u32, b: u32) -> u32
-    ensures { λ r. ⌜ r ≡ max a b ⌝ }
-{
-    if a < b { b } else { a }
-}
-
-// The difference, 0 where it would be negative.
-pub(crate) fn less(a: u32, b: u32) -> u32
-    ensures { λ r. ⌜ r ≡ a - b ⌝ }
-{
-    if b <= a { a - b } else { 0 }
-}
-
-// The flag after a handout that ends at `end`: on if high water rises, else as it was.
-fn risen(high: u32, end: u32, fresh: bool) -> bool
-    ensures { λ r. ⌜ r ≡ pick (ltb high end) true fresh ⌝ }
-{
-    if high < end { true } else { fresh }
 }

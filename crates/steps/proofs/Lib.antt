@@ -1,0 +1,4 @@
+pub mod Walks
+pub mod Tiling
+pub mod Clears
+pub mod Neighbours
