@@ -5,6 +5,7 @@
 //     empty     setting a payload to 0, which heap.rs does not
 //     search    search_first_fit
 //     live      which chunks are used, by a walk of the tiling
+//     undo      noting words before they are overwritten, and putting them back
 //
 // A crate of its own below `heap`, so that a change of one of them is proved in seconds.
 mod empty;
@@ -12,6 +13,7 @@ mod free;
 mod live;
 mod search;
 mod sums;
+mod undo;
 
 pub use empty::clear_payload;
 pub use free::left_free;
@@ -26,3 +28,7 @@ pub use sums::larger;
 pub use sums::less;
 pub use sums::portion_of;
 pub use sums::risen;
+pub use undo::note;
+pub use undo::note_link;
+pub use undo::note_tags;
+pub use undo::put_back;
