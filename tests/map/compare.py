@@ -139,20 +139,20 @@ def check_served(heap, data):
 
 
 def served_history(seed):
-    """A random history of few and often large chunks, so that the largest free chunk is of any class and the cached one often the longest."""
+    """A heap after a random history of few and often large chunks: the largest free chunk is of any class, the cached one often longer."""
     rng = random.Random(seed)
-    trace = model.Trace()
-    trace.heap.make(rng.choice((5, 7, 9, 17, 33, 65, 127, 129, 257, 401, 600)) | 1)
+    heap = model.Heap([0] * 601)
+    heap.make(rng.choice((5, 7, 9, 17, 33, 65, 127, 129, 257, 401, 601)))
     for _ in range(rng.randrange(40)):
-        places = [chunk.payload for chunk in trace.heap.chunks() if chunk.used]
+        places = [chunk.payload for chunk in heap.chunks() if chunk.used]
         if places and rng.random() < 0.4:
-            trace.heap.take_back(rng.choice(places))
+            heap.take_back(rng.choice(places))
         else:
-            trace.heap.hand_out(rng.choice((rng.randrange(1, 60), rng.randrange(1, 4 * trace.heap.record.words), rng.randrange(500, 560))))
-    return trace.heap
+            heap.hand_out(rng.choice((rng.randrange(1, 60), rng.randrange(1, 4 * heap.record.words), rng.randrange(500, 560))))
+    return heap
 
 
-HEAPS = 400  # random heaps of which every request is asked
+HEAPS = 1_000  # random heaps of which every request is asked
 
 
 def check_requests():
@@ -178,6 +178,9 @@ def check_words():
         (b"1000000000000001F8\n", "largest request that is served: 244 bytes"),
         (b"100000000000000018\n", "largest request that is served: none"),
         (b"120000000000000018\n", "largest request that is served: 20 bytes (the cached chunk)"),
+        (b"120000000000000210\n", "largest request that is served: 524 bytes (the cached chunk)"),
+        (b"120000000000000218\n", "largest request that is served: 532 bytes (the cached chunk); 1 to 12 are refused"),
+        (b"1000000000000001F8\n12000001F800000300\n", "largest request that is served: 764 bytes (the cached chunk)"),
         (b"1000000000000001F8\n12000001F800000400\n", "largest request that is served: 1,020 bytes (the cached chunk); 245 to 500 are refused"),
     ):
         said = heapmap.table(heapmap.read(data)[0])[-1]
