@@ -1,9 +1,9 @@
 //! The benchmarks: what the audit costs, alone and in every call, as ratios of times measured side by side in one run.
 //!
-//!     bench
+//!     bench [--record]
 //!
-//! Prints the figures, writes them into docs/BENCHMARKS.md between its two marks, and draws docs/benchmarks.svg. Status 1 if the
-//! audit misses a target by more than twice.
+//! Prints the figures; with --record it also writes them into docs/BENCHMARKS.md between its two marks, from which oracle/plot draws
+//! docs/benchmarks.svg. Status 1 if the audit misses a target by more than twice.
 
 #[path = "compare-parts/door.rs"]
 mod door;
@@ -189,12 +189,12 @@ fn sections(audits: &[Row], untargeted: &[Row], calls: &[Row]) -> String {
         "{BEGIN}
 ## The audit against one walk of the tiling
 
-`oracle/bench` measures this section and the next and writes them here, with the plot. The figures are ratios of times on one computer,
+`oracle/bench` measures this section and the next; `oracle/bench --record` also writes them here and draws the plot. The figures are ratios of times on one computer,
 both sides optimised and measured in turns in one process: the median of {REPEATS} repeats, and the least and the most. A repeat keeps
 the fastest of {SPELLS} short spells of either side. On a busy computer the audit was seen
 to take up to twice its time where a walk of 4,000 chunks hardly took longer, so there medians and spreads are higher.
 
-![The ratios, with the targets](benchmarks.svg)
+![Two panels: the audit over one walk of the same heap, with its targets, and our calls over the Rust's](benchmarks.svg)
 
 Here it is the audit alone, `lischemur_audit`, over a plain loop that goes from header to header of the same words and tests nothing. The
 heap has 16,383 words.
@@ -239,63 +239,6 @@ fn write_sections(text: &str) -> std::io::Result<()> {
     };
     let gap = if after.is_empty() { "" } else { "\n" };
     fs::write(path, format!("{before}{text}{gap}{after}"))
-}
-
-/// Where a ratio stands on the plot: a logarithmic scale from 1 to 10,000.
-fn place(ratio: f64) -> f64 {
-    340.0 + 140.0 * ratio.max(1.0).log10()
-}
-
-/// A bar of the plot with its spread and its target.
-fn bar(at: usize, row: &Row) -> String {
-    let y = 46 + 26 * at;
-    let ratio = &row.ratio;
-    let (end, least, most) = (place(ratio.median), place(ratio.least), place(ratio.most));
-    let target = row.target.map_or(String::new(), |target| {
-        let x = place(target);
-        format!(
-            "<path d=\"M{x:.1} {} v22\" stroke=\"#c00\" stroke-width=\"2\"/>\n",
-            y - 2
-        )
-    });
-    format!(
-        "<text x=\"332\" y=\"{}\" text-anchor=\"end\">{}</text>\n\
-         <rect x=\"340\" y=\"{y}\" width=\"{:.1}\" height=\"18\" fill=\"#79a\"/>\n\
-         <path d=\"M{least:.1} {} H{most:.1}\" stroke=\"#000\"/>\n\
-         <text x=\"{:.1}\" y=\"{}\">{:.1}</text>\n{target}",
-        y + 13,
-        row.name,
-        end - 340.0,
-        y + 9,
-        most.max(row.target.map_or(0.0, place)) + 6.0,
-        y + 13,
-        ratio.median
-    )
-}
-
-/// The plot.
-fn plot(rows: &[&Row]) -> String {
-    let height = 46 + 26 * rows.len();
-    let bars: String = rows
-        .iter()
-        .enumerate()
-        .map(|(at, row)| bar(at, row))
-        .collect();
-    let scale: String = [1.0, 10.0, 100.0, 1000.0, 10_000.0]
-        .map(|mark| {
-            let x = place(mark);
-            format!(
-                "<path d=\"M{x} 40 V{height}\" stroke=\"#ddd\"/>\n<text x=\"{x}\" y=\"34\" text-anchor=\"middle\">{mark}</text>\n"
-            )
-        })
-        .concat();
-    format!(
-        "<svg xmlns=\"http://www.w3.org/2000/svg\" width=\"960\" height=\"{}\" font-family=\"sans-serif\" font-size=\"12\">\n\
-         <rect width=\"100%\" height=\"100%\" fill=\"#fff\"/>\n\
-         <text x=\"10\" y=\"16\">Ratios: median as a bar, least to most as a line, targets in red (logarithmic scale)</text>\n\
-         {scale}{bars}</svg>\n",
-        height + 10
-    )
 }
 
 /// The audit on the states that have a target.
@@ -349,12 +292,14 @@ fn calls() -> Vec<Row> {
     ]
 }
 
-/// Measure, write, and judge by the targets.
+/// Measure, write if that is asked, and judge by the targets.
 fn main() -> std::io::Result<()> {
+    let record = std::env::args().skip(1).any(|word| word == "--record");
     let (audits, more, calls) = (audits(), more_audits(), calls());
-    write_sections(&sections(&audits, &more, &calls))?;
-    let all: Vec<&Row> = audits.iter().chain(&more).chain(&calls).collect();
-    fs::write("docs/benchmarks.svg", plot(&all))?;
+    if record {
+        write_sections(&sections(&audits, &more, &calls))?;
+        println!("bench: the figures are in docs/BENCHMARKS.md");
+    }
     let wide = |row: &&Row| {
         row.target
             .is_some_and(|target| row.ratio.median > 2.0 * target)
@@ -368,6 +313,5 @@ fn main() -> std::io::Result<()> {
         eprintln!("bench: more than twice the target: {}", missed.join("; "));
         exit(1);
     }
-    println!("bench: docs/BENCHMARKS.md and docs/benchmarks.svg are written");
     Ok(())
 }
