@@ -5,6 +5,7 @@
 `chart` is run on histories, cut at many places, and its map is compared with the layout that oracle/model.py has there. `inspect` is run
 on those maps and on MAPS spoiled ones, and its answer is compared with `first_bad` below, which goes by one regular expression and by
 sums of lengths. The drawing's own reading (tools/heapmap) has to agree with both, and of every third map table, bar and picture are checked.
+The largest request that a map's sheet says is served is compared with the model's heap, for every size on random heaps.
 """
 
 import importlib.machinery
