@@ -1,9 +1,9 @@
 //! The benchmarks: what the audit costs, alone and in every call, as ratios of times measured side by side in one run.
 //!
-//!     bench [--record]
+//!     bench [FILE]
 //!
-//! Prints the figures; with --record it also writes them into docs/BENCHMARKS.md between its two marks, from which oracle/plot draws
-//! docs/benchmarks.svg. Status 1 if the audit misses a target by more than twice.
+//! Prints the figures; with FILE it also writes there the sections of docs/BENCHMARKS.md that `oracle/bench --record` puts in their place.
+//! Status 1 if the audit misses a target by more than twice.
 
 #[path = "compare-parts/door.rs"]
 mod door;
@@ -27,17 +27,6 @@ use states::{bring, long, Heap, Requests, Shape, WORDS};
 use std::fs;
 use std::hint::black_box;
 use std::process::exit;
-
-/// The lines of docs/BENCHMARKS.md between which the figures stand.
-const BEGIN: &str = "<!-- oracle/bench: begin -->";
-const END: &str = "<!-- oracle/bench: end -->";
-
-/// How docs/BENCHMARKS.md begins if there is none.
-const INTRODUCTION: &str = "# What it costs
-
-Figures that were measured, how, and how to measure them again. Nothing here is proved.
-
-";
 
 /// A ratio with what is said of it.
 struct Row {
@@ -183,12 +172,10 @@ fn rows(rows: &[Row]) -> String {
     rows.iter().map(line).collect()
 }
 
-/// The sections of docs/BENCHMARKS.md that this program writes.
+/// The sections of docs/BENCHMARKS.md that are measured here, below their first heading.
 fn sections(audits: &[Row], untargeted: &[Row], calls: &[Row]) -> String {
     format!(
-        "{BEGIN}
-## The audit against one walk of the tiling
-
+        "\
 `oracle/bench` measures this section and the next; `oracle/bench --record` also writes them here and draws the plot. The figures are ratios of times on one computer,
 both sides optimised and measured in turns in one process: the median of {REPEATS} repeats, and the least and the most. A repeat keeps
 the fastest of {SPELLS} short spells of either side. On a busy computer the audit was seen
@@ -218,27 +205,11 @@ on the same states. Each of our calls audits the whole heap first, and the Rust'
 
 | Heap | Our call over the Rust's | Spread |
 |---|---|---|
-{}{END}
-",
+{}",
         rows(audits),
         rows(untargeted),
         rows(calls)
     )
-}
-
-/// Put the sections where they belong in docs/BENCHMARKS.md, and leave the rest of it as it is.
-fn write_sections(text: &str) -> std::io::Result<()> {
-    let path = "docs/BENCHMARKS.md";
-    let old = fs::read_to_string(path).unwrap_or_else(|_| INTRODUCTION.to_string());
-    let (before, after) = match (old.find(BEGIN), old.find(END)) {
-        (Some(begin), Some(end)) => (
-            &old[..begin],
-            old[end + END.len()..].trim_start_matches('\n'),
-        ),
-        _ => old.split_at(old.find("## ").unwrap_or(old.len())),
-    };
-    let gap = if after.is_empty() { "" } else { "\n" };
-    fs::write(path, format!("{before}{text}{gap}{after}"))
 }
 
 /// The audit on the states that have a target.
@@ -294,11 +265,9 @@ fn calls() -> Vec<Row> {
 
 /// Measure, write if that is asked, and judge by the targets.
 fn main() -> std::io::Result<()> {
-    let record = std::env::args().skip(1).any(|word| word == "--record");
     let (audits, more, calls) = (audits(), more_audits(), calls());
-    if record {
-        write_sections(&sections(&audits, &more, &calls))?;
-        println!("bench: the figures are in docs/BENCHMARKS.md");
+    if let Some(file) = std::env::args_os().nth(1) {
+        fs::write(file, sections(&audits, &more, &calls))?;
     }
     let wide = |row: &&Row| {
         row.target
