@@ -26,7 +26,7 @@
  * x86-64, `meter/build` for a Cortex-M4; the assertions at the end of this file stop a compiler that lays things out otherwise.
  *
  * Header and library belong together. What crosses the door has a layout with a number, LISCHEMUR_LAYOUT, and the library's
- * functions carry it in their names. If the linker says that lischemur_make_needs_library_of_layout_2 is undefined (the number
+ * functions carry it in their names. If the linker says that lischemur_make_needs_library_of_layout_3 is undefined (the number
  * is this header's), the library is of another layout: take header and library from the same build. If it says that
  * lischemur_make is, a source was compiled with a header from before layout 2: compile it again with this one.
  */
@@ -58,8 +58,8 @@ extern "C" {
 #endif
 
 /* The version, and the number of the layout of what crosses the door, which is the version's second number too. */
-#define LISCHEMUR_VERSION "0.2.0"
-#define LISCHEMUR_LAYOUT 2
+#define LISCHEMUR_VERSION "0.3.0"
+#define LISCHEMUR_LAYOUT 3
 
 /* The library's name of each function, by which programs of another layout do not link. */
 #define LISCHEMUR_NAMED(name, layout) name##_needs_library_of_layout_##layout
