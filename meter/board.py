@@ -17,7 +17,7 @@ RUN = os.path.join(OUT, "run")
 FIRMWARE = os.path.join(HERE, "firmware")
 PROGRAM = "meter/" + os.path.basename(sys.argv[0])
 PACKAGES = {
-    **({"cc": "gcc libc6-dev"} if platform.machine() == "x86_64" else {"x86_64-linux-gnu-gcc": "gcc-x86-64-linux-gnu libc6-dev-amd64-cross"}),
+    "cc": "gcc libc6-dev",
     "arm-none-eabi-gcc": "gcc-arm-none-eabi libnewlib-arm-none-eabi",
     "qemu-system-arm": "qemu-system-arm",
 }
