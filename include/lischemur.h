@@ -20,8 +20,7 @@
  *   - `heap` is not null, not even for 0 words, is aligned for uint32_t, and is followed by `heap_words` words;
  *   - `room` is not null, not even for 0 bytes, and is followed by `room_bytes` bytes;
  *   - record, words and room do not overlap, and nothing else reads or writes them during a call (mask interrupts, or hold
- *     a lock);
- *   - `fresh` holds true or false, as a bool does.
+ *     a lock).
  *
  * A slice of Rattle is a pointer and a 64-bit count in C, on every processor. `rt staticlib door` builds the library for
  * x86-64, `meter/build` for Cortex-M and 32-bit RISC-V; the assertions at the end of this file stop a compiler that lays things
@@ -34,7 +33,7 @@
  *   RISC-V     memcpy and memset; for the map __udivdi3
  *
  * Header and library belong together. What crosses the door has a layout with a number, LISCHEMUR_LAYOUT, and the library's
- * functions carry it in their names. If the linker says that lischemur_make_needs_library_of_layout_2 is undefined (the number
+ * functions carry it in their names. If the linker says that lischemur_make_needs_library_of_layout_3 is undefined (the number
  * is this header's), the library is of another layout: take header and library from the same build. If it says that
  * lischemur_make is, a source was compiled with a header from before layout 2: compile it again with this one. For a
  * microcontroller the names end in its architecture too (_for_armv7em), so that the library of one does not go into an image
@@ -68,8 +67,8 @@ extern "C" {
 #endif
 
 /* The version, and the number of the layout of what crosses the door, which is the version's second number too. */
-#define LISCHEMUR_VERSION "0.2.0"
-#define LISCHEMUR_LAYOUT 2
+#define LISCHEMUR_VERSION "0.3.0"
+#define LISCHEMUR_LAYOUT 3
 
 /* How the library's names end on a microcontroller: in the architecture that it is compiled for (meter/parts has the list). */
 #if defined(__ARM_ARCH_6M__)
@@ -170,7 +169,7 @@ typedef struct lischemur_record {
     uint32_t peak;      /* the largest that committed has been */
     uint32_t high;      /* high water: the largest end, in bytes, of a chunk that was handed out */
     uint16_t cached;    /* the link of the cached chunk, 0 for none */
-    bool fresh;         /* high water has risen since the mark was last read */
+    uint16_t fresh;     /* 1 if high water has risen since the mark was last read, else 0; any other value is damaged */
 } lischemur_record;
 
 /* What making, handing out, taking back and writing the map reply. */
@@ -257,7 +256,6 @@ static inline bool lischemur_aligned(const uint32_t *heap)
     return (uintptr_t)heap % 8 == 4;
 }
 
-LISCHEMUR_ASSERT(sizeof(bool) == 1, "the record's layout");
 LISCHEMUR_ASSERT(offsetof(lischemur_record, prev) == 0, "the record's layout");
 LISCHEMUR_ASSERT(offsetof(lischemur_record, next) == 12, "the record's layout");
 LISCHEMUR_ASSERT(offsetof(lischemur_record, words) == 24, "the record's layout");

@@ -21,13 +21,11 @@ COMMON = ["-std=gnu11", "-O2", "-Wall", "-Wextra", "-Werror"]
 # The packages of Debian that have a program.
 PACKAGES = {
     "cc": "gcc libc6-dev",
-    "x86_64-linux-gnu-gcc": "gcc-x86-64-linux-gnu libc6-dev-amd64-cross",
     "arm-none-eabi-gcc": "gcc-arm-none-eabi libnewlib-arm-none-eabi",
     "qemu-system-arm": "qemu-system-arm",
     "riscv64-unknown-elf-gcc": "gcc-riscv64-unknown-elf picolibc-riscv64-unknown-elf",
     "qemu-system-riscv32": "qemu-system-misc",
 }
-CC = "cc" if platform.machine() == "x86_64" else "x86_64-linux-gnu-gcc"  # a compiler for x86-64
 
 # The boards: where code and data lie, how long they are, and the words, the frames and the answers that an image has room for if not the usual.
 MEGABYTE = 1 << 20

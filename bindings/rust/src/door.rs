@@ -8,13 +8,13 @@ use core::mem::{align_of, offset_of, size_of};
 
 /// The number of the layout that record and replies have. The archive's names carry it, so that an
 /// archive of another layout does not link.
-pub const LAYOUT: u32 = 2;
+pub const LAYOUT: u32 = 3;
 
 /// The archive's name of a function: it ends in the layout's number and, for a microcontroller, in the
 /// processor's architecture, which build.rs knows.
 macro_rules! named {
     ($name:literal) => {
-        concat!($name, "_needs_library_of_layout_2", env!("LISCHEMUR_PART"))
+        concat!($name, "_needs_library_of_layout_3", env!("LISCHEMUR_PART"))
     };
 }
 
@@ -40,8 +40,8 @@ pub struct Record {
     pub high: u32,
     /// The cached chunk's link; 0 if there is none.
     pub cached: u16,
-    /// Whether high water has risen since the mark was last read.
-    pub fresh: bool,
+    /// 1 if high water has risen since the mark was last read, else 0; any other value is damaged.
+    pub fresh: u16,
 }
 
 impl Record {
@@ -55,7 +55,7 @@ impl Record {
         peak: 0,
         high: 0,
         cached: 0,
-        fresh: false,
+        fresh: 0,
     };
 }
 

@@ -34,7 +34,7 @@ use reply::marking_of;
 
 // Makes a heap of the whole slice, which is to have `words` words. A 6 keeps the record.
 #[no_mangle]
-pub extern "C" fn lischemur_make_needs_library_of_layout_2(
+pub extern "C" fn lischemur_make_needs_library_of_layout_3(
     rec: &mut Record,
     heap: &mut [u32],
     words: u32,
@@ -48,7 +48,7 @@ pub extern "C" fn lischemur_make_needs_library_of_layout_2(
 
 // Hands out a payload of at least `size` bytes.
 #[no_mangle]
-pub extern "C" fn lischemur_hand_out_needs_library_of_layout_2(
+pub extern "C" fn lischemur_hand_out_needs_library_of_layout_3(
     rec: &mut Record,
     heap: &mut [u32],
     size: u32,
@@ -62,7 +62,7 @@ pub extern "C" fn lischemur_hand_out_needs_library_of_layout_2(
 
 // Takes back the payload that begins at this offset.
 #[no_mangle]
-pub extern "C" fn lischemur_take_back_needs_library_of_layout_2(
+pub extern "C" fn lischemur_take_back_needs_library_of_layout_3(
     rec: &mut Record,
     heap: &mut [u32],
     payload: u32,
@@ -76,7 +76,7 @@ pub extern "C" fn lischemur_take_back_needs_library_of_layout_2(
 
 // Whether the record and these words are sound: 1 or 0.
 #[no_mangle]
-pub extern "C" fn lischemur_audit_needs_library_of_layout_2(rec: Record, heap: &[u32]) -> u32
+pub extern "C" fn lischemur_audit_needs_library_of_layout_3(rec: Record, heap: &[u32]) -> u32
     ensures { λ r. ⌜ r ≡ bit (soundAt (seen rec (now (heap .entry)))) ⌝ }
 {
     let sound = rec.audit(heap);
@@ -86,7 +86,7 @@ pub extern "C" fn lischemur_audit_needs_library_of_layout_2(rec: Record, heap: &
 // Writes the heap's map at the start of the room, a line for each chunk, and replies how many: 5 if the heap is damaged, then 6 if the
 // room is too short.
 #[no_mangle]
-pub extern "C" fn lischemur_write_map_needs_library_of_layout_2(
+pub extern "C" fn lischemur_write_map_needs_library_of_layout_3(
     rec: Record,
     heap: &[u32],
     room: &mut [u8],
@@ -99,7 +99,7 @@ pub extern "C" fn lischemur_write_map_needs_library_of_layout_2(
 
 // The mark, if high water has risen, and the record with its flag off.
 #[no_mangle]
-pub extern "C" fn lischemur_mark_needs_library_of_layout_2(rec: Record, stacklets: u32) -> Marking
+pub extern "C" fn lischemur_mark_needs_library_of_layout_3(rec: Record, stacklets: u32) -> Marking
     ensures { λ r. ⌜ r ≡ markingBy (markOf rec stacklets) ⌝ }
 {
     let marked = rec.mark(stacklets);
@@ -109,7 +109,7 @@ pub extern "C" fn lischemur_mark_needs_library_of_layout_2(rec: Record, stacklet
 
 // Bytes in use, as tasks hold them.
 #[no_mangle]
-pub extern "C" fn lischemur_in_use_needs_library_of_layout_2(rec: Record) -> u32
+pub extern "C" fn lischemur_in_use_needs_library_of_layout_3(rec: Record) -> u32
     ensures { λ r. ⌜ r ≡ rec .«in_use» ⌝ }
 {
     rec.in_use()
@@ -117,7 +117,7 @@ pub extern "C" fn lischemur_in_use_needs_library_of_layout_2(rec: Record) -> u32
 
 // Bytes committed: those in use, and those of the cached chunk.
 #[no_mangle]
-pub extern "C" fn lischemur_committed_needs_library_of_layout_2(rec: Record) -> u32
+pub extern "C" fn lischemur_committed_needs_library_of_layout_3(rec: Record) -> u32
     ensures { λ r. ⌜ r ≡ rec .committed ⌝ }
 {
     rec.committed()
@@ -125,7 +125,7 @@ pub extern "C" fn lischemur_committed_needs_library_of_layout_2(rec: Record) -> 
 
 // The most bytes that were committed.
 #[no_mangle]
-pub extern "C" fn lischemur_peak_needs_library_of_layout_2(rec: Record) -> u32
+pub extern "C" fn lischemur_peak_needs_library_of_layout_3(rec: Record) -> u32
     ensures { λ r. ⌜ r ≡ rec .peak ⌝ }
 {
     rec.peak()
@@ -133,7 +133,7 @@ pub extern "C" fn lischemur_peak_needs_library_of_layout_2(rec: Record) -> u32
 
 // High water: the largest end of a chunk that was handed out.
 #[no_mangle]
-pub extern "C" fn lischemur_high_water_needs_library_of_layout_2(rec: Record) -> u32
+pub extern "C" fn lischemur_high_water_needs_library_of_layout_3(rec: Record) -> u32
     ensures { λ r. ⌜ r ≡ rec .high ⌝ }
 {
     rec.high_water()

@@ -8,20 +8,27 @@ use Prim.Native.Nat.{ℕ, zero, suc, _+_, _-_, _/_, _%_, _^_, _≤_, _<_}
 use native.Mathlib.Omega.{arith}
 use borrow.Author.Tests.{lt-ltb, le-ltb, lt-leb, le-leb}
 use lib.Dec.{ltb}
-use lib.ListN.{getD, set}
+use lib.ListN.{length, getD, set}
 use Rattle.words.specs.declared.names.Link.{Link}
 use Rattle.words.specs.Choice.{pick}
 use Rattle.words.specs.Names.{links, heldName}
-use Rattle.words.specs.Sizes.{classOf}
 use Rattle.words.specs.Tags.{at, headerOf, lengthOf, freeᵇ, leftFreeᵇ, leftUsed, leftFreed, rightOf, footerOf, changed}
 use Rattle.words.specs.Links.{narrow, prev, next, linkAt, setLinkAt, nodeLink, setSentinel, setChunkLink}
 use Rattle.words.specs.Numbers.{numbers}
 use Rattle.words.proofs.Laws.Numbers.{numbers-at, numbers-set}
-use Rattle.rules.specs.Steps.{portion, unlink, link, setLeft, clearLeft, markFree, markUsed, returnExcess, takeChunk, leftFree, rightFree, merge, merged, releaseChunk}
+use Rattle.words.specs.Sizes.{classOf, startOf}
+use Rattle.rules.specs.Steps.{portion, unlink, link, setLeft, clearLeft, markFree, markUsed, returnExcess, takeChunk, leftFree, rightFree, merge, merged, releaseChunk, cleared, emptied}
+use Rattle.rules.specs.Search.{searchAll}
+use Rattle.rules.specs.Rules.{firstFit}
 use Rattle.rules.specs.Making.{State}
 use Rattle.heap.specs.declared.record.Record.{Record}
 use Rattle.heap.specs.Seen.{seen, base, withPrevs, withNexts, stored}
-use Rattle.heap.specs.Chunk.{freed, leftFreeIn, rightFreeIn, caseOf, Releasable}
+use Rattle.heap.specs.Released.{freeListed}
+use Rattle.steps.specs.Chunk.{freed, leftFreeIn, rightFreeIn, clearedIn, emptiedIn, caseOf, Releasable}
+use Rattle.steps.specs.declared.merge.Merged.{Merged}
+use Rattle.steps.specs.Merged.{mergedIn, plainBy}
+use Rattle.steps.specs.Found.{walkIn}
+use Rattle.steps.proofs.Neighbours.{merged-plain}
 
 -- storing a sentinel's link, as numbers
 pub numbers-stored : (ls : List Link) (l : ℕ) (v : Link) → numbers (stored ls l v) ≡ setSentinel (numbers ls) l (v .0)
@@ -133,38 +140,6 @@ module _ (s : State) (l r : ℕ) where
   merge-both t u false true k et eu e h0 h1 h2 = absurd (h2 e)
   merge-both t u true true k et eu e h0 h1 h2 = eu ∙ ap (λ (v : State). unlink base v r) et
 
--- FREE NEIGHBOURS: the flag says whether there is one
-pub left-none : (ws : List ℕ) (w : ℕ) (b : Bool) → b ≡ leftFreeᵇ (at ws w) → b ≡ false → 0 ≡ leftFreeIn ws w
-unfolding leftFreeIn
-left-none ws w b e h = rw (sym e ∙ h)
-
-pub left-some : (ws : List ℕ) (w f v : ℕ) (b : Bool) → b ≡ leftFreeᵇ (at ws w) → b ≡ true → f ≡ w - 1 → v ≡ at ws f → v ≡ leftFreeIn ws w
-unfolding leftFreeIn
-left-some ws w f v b e h ef ev = rw (sym e ∙ h) (ev ∙ ap (at ws) ef)
-
-pub right-none : (ws : List ℕ) (w : ℕ) (b : Bool) → b ≡ freeᵇ (at ws w) → b ≡ false → 0 ≡ rightFreeIn ws w
-unfolding rightFreeIn
-right-none ws w b e h = rw (sym e ∙ h)
-
-pub right-some : (ws : List ℕ) (w v : ℕ) (b : Bool) → b ≡ freeᵇ (at ws w) → b ≡ true → v ≡ lengthOf (at ws w) → v ≡ rightFreeIn ws w
-unfolding rightFreeIn
-right-some ws w v b e h ev = rw (sym e ∙ h) ev
-
--- TAGS of a free chunk
-pub footer-place : (w n f : ℕ) → w < 2 ^ 32 → n < 2 ^ 32 → f ≡ rightOf w n % 2 ^ 64 - 1 → f ≡ footerOf w n
-footer-place w n f hw hn e = omega arith
-
-pub freed-by : (ws ws1 ws2 : List ℕ) (w n f : ℕ) → w < 2 ^ 32 → n < 2 ^ 32 → ws1 ≡ set ws w (headerOf n false true) → f ≡ rightOf w n % 2 ^ 64 - 1 → ws2 ≡ set ws1 f n → ws2 ≡ freed ws w n
-unfolding freed
-freed-by ws ws1 ws2 w n f hw hn e1 ef e2 = rw (e2, footer-place w n f hw hn ef, e1)
-
--- WHAT A REQUEST GETS
-pub portion-whole : (n z e : ℕ) → e ≡ n - z → e < 12 → n ≡ portion n z
-portion-whole n z e q h = let k : n < z + 12 = omega arith in rw (lt-leb _ _ k)
-
-pub portion-cut : (n z e : ℕ) → e ≡ n - z → 12 ≤ e → z ≡ portion n z
-portion-cut n z e q h = let k : z + 12 ≤ n = omega arith in rw (le-leb _ _ k)
-
 -- a header that links can name: its place and its name are plain sums
 pub held-name : (w x : ℕ) → w + 6 < 65536 → x ≡ heldName links w → x ≡ w + 6
 held-name w x h e = omega arith
@@ -197,28 +172,59 @@ take-by r a q ws ws1 ws2 ws3 x w n z m hx ew ea em e2 eq =
     let ex : x - 6 + 6 ≡ x = omega arith in
     eq ∙ rw (e2, em) (ap (λ (s : State). returnExcess base (base .setWord s w (headerOf (portion n z) true true)) w n z) ea ∙ rw (ex, ew) refl)
 
--- RELEASING: its sums stay in range
-pub release-room : (ws : List ℕ) (x n w e f g : ℕ) → Releasable ws x n → x < 65536 → n < 2 ^ 32 → w ≡ x - 6 → e ≡ rightOf w n % 2 ^ 64 → f ≡ leftFreeIn ws w → g ≡ rightFreeIn ws e
-    → (f / 4 ≤ w) × (x + n / 4 + g / 4 < 65536)
-release-room ws x n w e f g h hx hn ew ee ef eg =
-    let pe : e ≡ rightOf (x - 6) n = right-place w n e (omega arith) hn ee ∙ ap (λ (v : ℕ). rightOf v n) ew in
-    let pf : f ≡ leftFreeIn ws (x - 6) = ef ∙ ap (leftFreeIn ws) ew in
-    let pg : g ≡ rightFreeIn ws (rightOf (x - 6) n) = eg ∙ ap (rightFreeIn ws) pe in
-    let hl = h .left in
-    let hr = h .right in
-    (omega arith, omega arith)
-
-pub release-by : (r a q : Record) (ws ws1 ws2 ws3 ws4 : List ℕ) (x n w e f g i m l y j k : ℕ) (b d : Bool) → Releasable ws x n → n < 2 ^ 32 → x < 65536
-    → w ≡ x - 6 → e ≡ rightOf w n % 2 ^ 64 → f ≡ leftFreeIn ws w → g ≡ rightFreeIn ws e → i ≡ w - f / 4 → m ≡ f + (n + g) → l ≡ heldName links i
-    → b ≡ ltb 0 f → d ≡ ltb 0 g → y ≡ heldName links e → seen a ws1 ≡ merge base b d (seen r ws) l y → ws2 ≡ freed ws1 i m → j ≡ rightOf i m % 2 ^ 64 → ws3 ≡ changed leftFreed ws2 j
-    → k ≡ classOf m → m < 2 ^ 32 → seen q ws4 ≡ link base (seen a ws3) k l → seen q ws4 ≡ releaseChunk base (seen r ws) (x - 6) n
-unfolding releaseChunk merged leftFree rightFree leftFreeIn rightFreeIn clearLeft markFree freed changed
-release-by r a q ws ws1 ws2 ws3 ws4 x n w e f g i m l y j k b d h hn hx ew ee ef eg ei em el eb ed ey ea e2 ej e3 ek hm eq =
-    let pe : e ≡ rightOf w n = right-place w n e (omega arith) hn ee in
-    let room : x + n / 4 < 65536 = let q = h .right in omega arith in
-    let pl : l ≡ i + 6 = held-name i l (omega arith) el in
-    let py : y ≡ e + 6 = held-name e y (let c = h .chunk in omega arith) ey in
+-- A FREE CHUNK TAGGED AND LISTED
+pub free-listed-by : (r q : Record) (ws ws1 ws2 ws3 : List ℕ) (i m j k l : ℕ) → i + 6 < 65536 → m < 2 ^ 32
+    → ws1 ≡ freed ws i m → j ≡ rightOf i m % 2 ^ 64 → ws2 ≡ changed leftFreed ws1 j → k ≡ classOf m → l ≡ heldName links i
+    → seen q ws3 ≡ link base (seen r ws2) k l → seen q ws3 ≡ freeListed (seen r ws) i m
+unfolding freeListed clearLeft markFree freed changed
+free-listed-by r q ws ws1 ws2 ws3 i m j k l hi hm e1 ej e2 ek el eq =
+    let pl : l ≡ i + 6 = held-name i l hi el in
     let pj : j ≡ rightOf i m = right-place i m j (omega arith) hm ej in
-    let off : seen a ws1 ≡ merge base (ltb 0 f) (ltb 0 g) (seen r ws) (i + 6) (e + 6) = ea ∙ rw (pl, py, eb, ed) refl in
-    let tagged : seen a ws3 ≡ clearLeft base (markFree base (seen a ws1) i m) (rightOf i m) = rw (e3, e2, pj) refl in
-    eq ∙ rw (ek, pl) (ap (λ (s : State). link base s (classOf m) (i + 6)) (tagged ∙ ap (λ (s : State). clearLeft base (markFree base s i m) (rightOf i m)) off) ∙ rw (em, ei, ef, eg, pe, ew) refl)
+    eq ∙ rw (ek, pl, e2, e1, pj) refl
+
+-- RELEASING: the merged chunk lies in the space that links can name
+pub release-room : (ws : List ℕ) (x n : ℕ) (g : Merged) → Releasable ws x n → g ≡ mergedIn ws x n
+    → (g .hdr .0 + 6 < 65536) × (6 ≤ g .link .0) × (6 ≤ g .right .0)
+release-room ws x n g h e =
+    let p = h .chunk in
+    let q = h .right in
+    rw (e ∙ merged-plain ws x n h) (omega arith, omega arith, omega arith)
+
+-- what is tagged and listed in the end is the rules' merged chunk, and that is the release of the chunk between its free neighbours
+merged-by : (s u : State) (w f n g : ℕ) → u ≡ merge base (ltb 0 f) (ltb 0 g) s (w - f / 4 + 6) (rightOf w n + 6)
+    → freeListed u (w - f / 4) (f + (n + g)) ≡ merged base s w f n g
+unfolding merged freeListed
+merged-by s u w f n g eu = rw eu
+
+released-between : (r : Record) (ws : List ℕ) (w n : ℕ)
+    → merged base (seen r ws) w (leftFreeIn ws w) n (rightFreeIn ws (rightOf w n)) ≡ releaseChunk base (seen r ws) w n
+unfolding releaseChunk leftFree rightFree leftFreeIn rightFreeIn
+released-between r ws w n = refl
+
+pub release-by : (r a q : Record) (ws ws1 ws2 : List ℕ) (x n : ℕ) (g : Merged) → Releasable ws x n → g ≡ mergedIn ws x n
+    → seen a ws1 ≡ merge base (g .«left_free») (g .«right_free») (seen r ws) (g .link .0) (g .right .0)
+    → seen q ws2 ≡ freeListed (seen a ws1) (g .hdr .0) (g .size) → seen q ws2 ≡ releaseChunk base (seen r ws) (x - 6) n
+release-by r a q ws ws1 ws2 x n g h eg ea eq =
+    let w = x - 6 in
+    let f = leftFreeIn ws w in
+    let e = rightFreeIn ws (rightOf w n) in
+    let plain : g ≡ plainBy w f n e = eg ∙ merged-plain ws x n h in
+    let off : seen a ws1 ≡ merge base (ltb 0 f) (ltb 0 e) (seen r ws) (w - f / 4 + 6) (rightOf w n + 6) = rw plain at ea in
+    let listed : seen q ws2 ≡ freeListed (seen a ws1) (w - f / 4) (f + (n + e)) = rw plain at eq in
+    listed ∙ merged-by (seen r ws) (seen a ws1) w f n e off ∙ released-between r ws w n
+
+-- SEARCHING: the rules' first fit on a record and its words
+pub first-fit-is : (sound : State → Bool) (r : Record) (ws : List ℕ) (z : ℕ)
+    → firstFit base 1 sound (seen r ws) z ≡ searchAll (walkIn (numbers (r .next)) ws z (length ws / 4)) (6 - startOf z) (startOf z) 0
+unfolding firstFit walkIn
+first-fit-is sound r ws z = refl
+
+-- EMPTYING, on record and words
+cleared-seen : (r : Record) (ws : List ℕ) (i k : ℕ) → seen r (clearedIn ws i k) ≡ cleared base (seen r ws) i k
+unfolding cleared clearedIn
+cleared-seen r ws i zero = refl
+cleared-seen r ws i (suc k) = cleared-seen r (set ws i 0) (suc i) k
+
+pub emptied-seen : (r : Record) (ws : List ℕ) (w n : ℕ) → seen r (emptiedIn ws w n) ≡ emptied base (seen r ws) w n
+unfolding emptied emptiedIn
+emptied-seen r ws w n = cleared-seen r ws (suc w) (n / 4 - 1)

@@ -1,6 +1,5 @@
 pub mod Seen
+pub mod Released
 pub mod Mark
-pub mod Chunk
-pub mod Found
 pub mod Answer
 pub mod Promises

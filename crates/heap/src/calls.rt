@@ -12,15 +12,9 @@ ghost use Rattle.heap.specs.Seen.{seen, base};
 ghost use Rattle.audit.specs.Shown.{cachedOf};
 ghost use Rattle.heap.specs.Promises.{Makes, HandsOut, TakesBack};
 ghost use Rattle.heap.specs.Answer.{outcome, soundAt, cacheServes, Served};
-use super::empty::clear_payload;
-use super::live::used_length;
-use super::merge::set_free_chunk_hdr_ftr;
 use super::record::Record;
-use super::record::less;
-use super::search::Found;
-use super::search::search_first_fit;
-use super::split::portion_of;
 use audit::Figures;
+use steps::Found;
 use words::ByteOffset;
 use words::Link;
 use words::WordIndex;
@@ -59,6 +53,7 @@ impl Record {
             peak: self.peak,
             high: self.high,
             cached,
+            fresh: self.fresh,
         };
         audit::audit(prev, next, figures, heap)
     }
@@ -139,7 +134,7 @@ impl Record {
             };
         }
         let l = words::hdr_to_link(words::payload_to_hdr(payload));
-        let held = less(self.in_use, length);
+        let held = steps::less(self.in_use, length);
         let rec = self.settle(heap, held, l);
         Out {
             answer: Answer::Done(ByteOffset(0), 0),
@@ -154,7 +149,7 @@ impl Record {
     {
         let guard = heap.len() - 1;
         let bytes = (4 * guard) as u32;
-        set_free_chunk_hdr_ftr(heap, WordIndex(0), bytes);
+        steps::set_free_chunk_hdr_ftr(heap, WordIndex(0), bytes);
         words::put(heap, WordIndex(guard), 2);
         let class = words::chunk_size_to_list_index(bytes);
         self.link_chunk(heap, class, Link(6))
@@ -171,7 +166,7 @@ impl Record {
         if (p - 4) / 4 + 6 == cached {
             return 0;
         }
-        used_length(heap, p - 4)
+        steps::used_length(heap, p - 4)
     }
 
     // Caches the chunk l, `held` bytes being in use then; the chunk that was cached before is released.
@@ -212,7 +207,7 @@ impl Record {
         if hit {
             let hdr = words::link_to_hdr(self.cached);
             let n = words::get_hdr_chunk_size(heap, hdr);
-            clear_payload(heap, hdr, n);
+            steps::clear_payload(heap, hdr, n);
             let held = self.in_use + n;
             return Out {
                 answer: Answer::Done(words::hdr_to_payload(hdr), 0),
@@ -228,7 +223,7 @@ impl Record {
         ensures { λ r. ⌜ outcome (r .answer) (seen (r .rec) (now (heap .exit))) ≡ fromList base 1 soundAt (seen self (now (heap .entry))) z (firstFit base 1 soundAt (seen self (now (heap .entry))) z) ⌝ }
     {
         let next = self.next;
-        let found = search_first_fit(next, heap, z);
+        let found = steps::search_first_fit(next, heap, z);
         match found {
             Found::Lost => Out {
                 answer: Answer::Damaged,
@@ -241,9 +236,9 @@ impl Record {
             Found::At(l, c) => {
                 let hdr = words::link_to_hdr(l);
                 let n = words::get_hdr_chunk_size(heap, hdr);
-                let m = portion_of(n, z);
+                let m = steps::portion_of(n, z);
                 let a = self.take_chunk(heap, l, n, z);
-                clear_payload(heap, hdr, m);
+                steps::clear_payload(heap, hdr, m);
                 let end = words::hdr_to_offset(words::hdr_to_right_hdr(hdr, m));
                 let rec = a.count_in(m, end.0);
                 Out {

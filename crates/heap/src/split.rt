@@ -3,9 +3,7 @@ ghost use mathlib.Core.Path.{_≡_};
 ghost use Prim.Native.Nat.{_+_, _-_, _/_, _≤_, _<_, _^_};
 ghost use Rattle.rules.specs.Steps.{portion, returnExcess, takeChunk};
 ghost use Rattle.heap.specs.Seen.{seen, base};
-use super::merge::set_free_chunk_hdr_ftr;
 use super::record::Record;
-use super::record::less;
 use words::Link;
 use words::WordIndex;
 
@@ -22,13 +20,13 @@ impl Record {
         requires { ⌜ hdr .0 + total / 4 + 6 < 65536 ⌝ }
         ensures { λ r. ⌜ seen r (now (heap .exit)) ≡ returnExcess base (seen self (now (heap .entry))) (hdr .0) total size ⌝ }
     {
-        let excess = less(total, size);
-        if excess < Self::FREE_CHUNK_MIN_SIZE {
+        let excess = steps::less(total, size);
+        if excess < steps::FREE_CHUNK_MIN_SIZE {
             words::set_left_allocated(heap, words::hdr_to_right_hdr(hdr, total));
             return self;
         }
         let rest = words::hdr_to_right_hdr(hdr, size);
-        set_free_chunk_hdr_ftr(heap, rest, excess);
+        steps::set_free_chunk_hdr_ftr(heap, rest, excess);
         let class = words::chunk_size_to_list_index(excess);
         self.link_chunk(heap, class, words::hdr_to_link(rest))
     }
@@ -40,19 +38,7 @@ impl Record {
     {
         let hdr = words::link_to_hdr(l);
         let a = self.unlink_chunk(heap, l);
-        words::set_hdr(heap, hdr, portion_of(n, z), true, true);
+        words::set_hdr(heap, hdr, steps::portion_of(n, z), true, true);
         a.return_excess_to_free_list(heap, hdr, n, z)
-    }
-}
-
-// What a request for z gets of n bytes: z where at least FREE_CHUNK_MIN_SIZE remain, else all.
-pub(crate) fn portion_of(n: u32, z: u32) -> u32
-    ensures { λ r. ⌜ r ≡ portion n z ⌝ }
-{
-    let excess = less(n, z);
-    if excess < Record::FREE_CHUNK_MIN_SIZE {
-        n
-    } else {
-        z
     }
 }

@@ -2,10 +2,10 @@
 use borrow.Author.Needs.{needs}
 use mathlib.Core.Path.{refl, sym, ap, _∙_}
 use native.Mathlib.Omega.{arith}
-use Rattle.heap.specs.declared.search.Found.{Found}
-use Rattle.heap.specs.Found.{told}
+use Rattle.steps.specs.declared.search.Found.{Found}
+use Rattle.steps.specs.Found.{told}
 use Rattle.heap.specs.Answer.{soundAt}
-use Rattle.heap.proofs.Walks.{first-fit-is}
+use Rattle.heap.proofs.Joins.{first-fit-is}
 use Rattle.heap.proofs.Answers.{nowhere-safe, take-safe, count-safe, listed-lost, listed-nowhere, listed-hit}
 use Rattle.heap.proofs.record.Record.serve_listed.Statement.{statement}
 use Rattle.heap.proofs.record.Record.serve_listed.Tie as tie

@@ -1,0 +1,101 @@
+-- WHAT THE DOORS ALLOW: one outcome each, and after a refusal record and words as they were. Firmware knows of a door only its contract (src/lib.rt).
+-- Assumes nothing.
+--     doors-determined     any two outcomes that a contract allows coincide
+--     doors-refused        after every number but 0 the record and the words are as they were, making's 6 too
+--     map-door-determined, map-door-refused     the same of the map's door
+use mathlib.Core.Path.{_≡_, refl, sym, ap, _∙_, subst}
+use mathlib.Core.Logic.{_≢_}
+use mathlib.Core.Bool.{Bool, true, false}
+use mathlib.Core.List.{List}
+use Prim.Native.Nat.{ℕ}
+use lib.Dec.{eqb}
+use lib.ListN.{length}
+use borrow.Author.Tests.{eqb-true}
+use Rattle.words.specs.Choice.{pick}
+use Rattle.words.specs.Links.{narrow}
+use Rattle.rules.specs.Rules.{Outcome, says}
+use Rattle.rules.specs.Making.{State, make, acceptedᵇ}
+use Rattle.rules.specs.Demands.{hand, back}
+use Rattle.rules.specs.Sound.{Accepted}
+use Rattle.rules.proofs.Proved.{narrow-demands, narrow-making}
+use Rattle.rules.proofs.Editions.{accepted-true}
+use Rattle.heap.specs.declared.record.Record.{Record}
+use Rattle.heap.specs.Seen.{seen, base}
+use Rattle.heap.proofs.Apart.{seen-same}
+use Rattle.map.specs.Calls.{written}
+use Rattle.map.proofs.Told.{written-kept}
+use Rattle.door.specs.declared.reply.Reply.{Reply}
+use Rattle.door.specs.Reply.{replied, makeOver}
+
+-- the doors that change a record where it lies
+pub data Door : Type 0 where
+  making : ℕ → Door
+  handingOut : ℕ → Door
+  takingBack : ℕ → Door
+
+-- what the contract of each says a state becomes
+abbrev pub through : Door → State → Outcome State
+through (making n) s = makeOver s n
+through (handingOut size) s = hand base 65529 1 s size
+through (takingBack p) s = back base 65529 1 s p
+
+-- through the door d the record r over the words ws gives the reply a, and q and vs are left there
+abbrev pub Replies : Door → Record → List ℕ → Reply → Record → List ℕ → Type 0
+Replies d r ws a q vs = replied a (seen q vs) ≡ through d (seen r ws)
+
+-- one outcome
+pub doors-determined : (d : Door) (r q t : Record) (ws vs us : List ℕ) (a b : Reply)
+    → Replies d r ws a q vs
+    → Replies d r ws b t us
+    → (a ≡ b) × (q ≡ t) × (vs ≡ us)
+doors-determined d r q t ws vs us a b e f =
+    let g : replied a (seen q vs) ≡ replied b (seen t us) = e ∙ sym f in
+    let s = seen-same q t vs us (ap (λ (o : Outcome State). o .after) g) in
+    (λ i. record { number = g i .number; value = g i .value; compared = g i .compared }, s .0, s .1)
+
+-- making over: 6 leaves the state, and nothing else than 6 and 0 is said
+over-kept : (s : State) (n : ℕ) → makeOver s n .number ≢ 0 → makeOver s n .after ≡ s
+unfolding makeOver
+over-kept s n = go (eqb n (length (s .words))) refl (acceptedᵇ 65529 n) refl
+  where
+    go : (t : Bool) → eqb n (length (s .words)) ≡ t → (u : Bool) → acceptedᵇ 65529 n ≡ u
+        → (pick t (pick u (make narrow 65529 (s .words)) (says 6 0 0 s)) (says 6 0 0 s)) .number ≢ 0
+        → (pick t (pick u (make narrow 65529 (s .words)) (says 6 0 0 s)) (says 6 0 0 s)) .after ≡ s
+    go false e u f h = refl
+    go true e false f h = refl
+    go true e true f h = absurd (h (narrow-making 1 (s .words) .0 .1 (subst (Accepted 65529) (eqb-true n (length (s .words)) e) (accepted-true 65529 n f))))
+
+-- each of the three keeps the state it refuses
+kept : (d : Door) (s : State) → through d s .number ≢ 0 → through d s .after ≡ s
+kept (making n) s h = over-kept s n h
+kept (handingOut size) s h = narrow-demands 1 .refused .0 s size h
+kept (takingBack p) s h = narrow-demands 1 .refused .1 s p h
+
+-- a refusal changes nothing
+pub doors-refused : (d : Door) (r q : Record) (ws vs : List ℕ) (a : Reply)
+    → Replies d r ws a q vs
+    → a .number ≢ 0
+    → (q ≡ r) × (vs ≡ ws)
+doors-refused d r q ws vs a e h =
+    seen-same q r vs ws (ap (λ (o : Outcome State). o .after) e ∙ kept d (seen r ws) (λ z. h (ap (λ (o : Outcome State). o .number) e ∙ z)))
+
+-- the map's door: the room after it
+abbrev pub RepliesMap : Record → List ℕ → List ℕ → Reply → List ℕ → Type 0
+RepliesMap r ws room a x = replied a x ≡ written (seen r ws) room
+
+-- one outcome of the map's door
+pub map-door-determined : (r : Record) (ws room x y : List ℕ) (a b : Reply)
+    → RepliesMap r ws room a x
+    → RepliesMap r ws room b y
+    → (a ≡ b) × (x ≡ y)
+map-door-determined r ws room x y a b e f =
+    let g : replied a x ≡ replied b y = e ∙ sym f in
+    (λ i. record { number = g i .number; value = g i .value; compared = g i .compared }, λ i. g i .after)
+
+-- a refused map leaves the room
+pub map-door-refused : (r : Record) (ws room x : List ℕ) (a : Reply)
+    → RepliesMap r ws room a x
+    → a .number ≢ 0
+    → x ≡ room
+map-door-refused r ws room x a e h =
+    ap (λ (o : Outcome (List ℕ)). o .after) e ∙ written-kept r ws room (λ z. h (ap (λ (o : Outcome (List ℕ)). o .number) e ∙ z))
