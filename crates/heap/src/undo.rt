@@ -31,7 +31,8 @@ impl Record {
         l: Link,
     ) -> Noted
         requires { ⌜ (6 ≤ l .0) × Room (now heap) (now log) k 2 ⌝ }
-        ensures { λ r. ⌜ Undoable (unlinkIf on (seen self (now (heap .entry))) (l .0)) 2 (now (heap .entry)) (now (log .entry)) k (now (heap .exit)) (now (log .exit)) r ⌝ }
+        ensures { λ r. ⌜ Undoable (unlinkIf on (seen self (now (heap .entry))) (l .0)) 2
+            (now (heap .entry)) (now (log .entry)) k (now (heap .exit)) (now (log .exit)) r ⌝ }
     {
         if !on {
             return Noted { rec: self, k };
@@ -54,7 +55,8 @@ impl Record {
         m: u32,
     ) -> Noted
         requires { ⌜ (merged .0 + 6 < 65536) × Room (now heap) (now log) k 5 ⌝ }
-        ensures { λ r. ⌜ Undoable (freeListed (seen self (now (heap .entry))) (merged .0) m) 5 (now (heap .entry)) (now (log .entry)) k (now (heap .exit)) (now (log .exit)) r ⌝ }
+        ensures { λ r. ⌜ Undoable (freeListed (seen self (now (heap .entry))) (merged .0) m) 5
+            (now (heap .entry)) (now (log .entry)) k (now (heap .exit)) (now (log .exit)) r ⌝ }
     {
         let class = words::chunk_size_to_list_index(m) as usize;
         let first = self.next[class];
@@ -76,7 +78,8 @@ impl Record {
         n: u32,
     ) -> Noted
         requires { ⌜ Releasable (now heap) (l .0) n × Room (now heap) (now log) k 9 ⌝ }
-        ensures { λ r. ⌜ Undoable (releaseChunk base (seen self (now (heap .entry))) (l .0 - 6) n) 9 (now (heap .entry)) (now (log .entry)) k (now (heap .exit)) (now (log .exit)) r ⌝ }
+        ensures { λ r. ⌜ Undoable (releaseChunk base (seen self (now (heap .entry))) (l .0 - 6) n) 9
+            (now (heap .entry)) (now (log .entry)) k (now (heap .exit)) (now (log .exit)) r ⌝ }
     {
         let g = steps::merging(heap, l, n);
         let a = self.unlink_noted(heap, log, k, g.left_free, g.link);

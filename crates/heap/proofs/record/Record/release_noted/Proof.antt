@@ -22,7 +22,8 @@ unlink-noted-requires-2 c κs =
     let left = at-log .before .before .before in
     let read = left .before .before .before in
     let entry = read .before .before .before .before in
-    let room = room-on 2 7 _ _ _ _ _ _ (entry .pre .1) (left .unlink-noted .kept .1 .0) (left .unlink-noted .kept .1 .1 .0) (left .unlink-noted .ensures .undoes) in
+    let kept = left .unlink-noted .kept .1 in
+    let room = room-on 2 7 _ _ _ _ _ _ (entry .pre .1) (kept .0) (kept .1 .0) (left .unlink-noted .ensures .undoes) in
     (release-room _ _ _ _ (entry .pre .0) (read .merging .ensures) .2, room-part 2 5 _ _ _ room)
 
 free-noted-requires : tie.Need-free-noted-requires
@@ -33,7 +34,8 @@ free-noted-requires c κs =
     let left = at-log .before .before .before .before in
     let read = left .before .before .before in
     let entry = read .before .before .before .before in
-    let room = room-on 2 7 _ _ _ _ _ _ (entry .pre .1) (left .unlink-noted .kept .1 .0) (left .unlink-noted .kept .1 .1 .0) (left .unlink-noted .ensures .undoes) in (
+    let kept = left .unlink-noted .kept .1 in
+    let room = room-on 2 7 _ _ _ _ _ _ (entry .pre .1) (kept .0) (kept .1 .0) (left .unlink-noted .ensures .undoes) in (
       release-room _ _ _ _ (entry .pre .0) (read .merging .ensures) .0,
       room-on 2 5 _ _ _ _ _ _ room (right .unlink-noted2 .kept .1 .0) (right .unlink-noted2 .kept .1 .1 .0) (right .unlink-noted2 .ensures .undoes),
     )
