@@ -4,7 +4,7 @@
 --     Changed, changes-none, ..-set       words that differ at some places at most, and the stores that keep to them
 --     undo-by                             THE LAW: a step that stores at the noted places alone is undone by the notes
 --     undo-none, undo-on, undo-whole      no step; a step after a step; all notes of a log put back
---     room-part, room-on                  room for fewer notes; the room that a step leaves
+--     undo-within, room-within, room-on   looser bounds; the room that a step leaves
 use mathlib.Core.Path.{_≡_, refl, sym, ap, _∙_}
 use mathlib.Core.Bool.{Bool, true, false}
 use mathlib.Core.List.{List, [], _∷_, _++_, List·Memᴰ, List·Memᴰ·head, List·Memᴰ·tail, List·Memᴰ·not-nil, Memᴰ·cast}
@@ -145,9 +145,13 @@ undo-on m n ws us vs log mid after k r t a b =
     let q = b .most in
     record { most = omega arith; back = b .back ∙ a .back }
 
--- room for m and n notes is room for m; and after a step that took m, room for n
-pub room-part : (m n : ℕ) (ws log : List ℕ) (k : ℕ) → Room ws log k (m + n) → Room ws log k m
-room-part m n ws log k h = let f = h .fits in record { named = h .named; fits = omega arith }
+-- a looser bound on the notes
+pub undo-within : (m n : ℕ) (ws us log after : List ℕ) (k r : ℕ) → m ≤ n → Undoes m ws log k us after r → Undoes n ws log k us after r
+undo-within m n ws us log after k r h a = let p = a .most in record { most = omega arith; back = a .back }
+
+-- room for m notes is room for fewer; and after a step that took m, there is room for n
+pub room-within : (m n : ℕ) (ws log : List ℕ) (k : ℕ) → n ≤ m → Room ws log k m → Room ws log k n
+room-within m n ws log k l h = let f = h .fits in record { named = h .named; fits = omega arith }
 
 pub room-on : (m n : ℕ) (ws us log after : List ℕ) (k r : ℕ) → Room ws log k (m + n) → length us ≡ length ws → length after ≡ length log
     → Undoes m ws log k us after r → Room us after r n

@@ -1,7 +1,8 @@
 -- `heap::record::Record::release_noted` meets its contract: three noted steps, one after the other (`release-noted-by`); each leaves room for the next.
 use mathlib.Core.Path.{_∙_}
+use native.Mathlib.Omega.{arith}
 use borrow.Author.Needs.{needs}
-use Rattle.steps.proofs.Undone.{room-part, room-on}
+use Rattle.steps.proofs.Undone.{room-within, room-on}
 use Rattle.heap.proofs.Joins.{release-room}
 use Rattle.heap.proofs.Undoing.{release-noted-by}
 use Rattle.heap.proofs.record.Record.release_noted.Statement.{statement}
@@ -14,7 +15,7 @@ unlink-noted-requires : tie.Need-unlink-noted-requires
 unlink-noted-requires c κs =
     let read = c .before .before in
     let entry = read .before .before .before .before in
-    (release-room _ _ _ _ (entry .pre .0) (read .merging .ensures) .1, room-part 2 7 _ _ _ (entry .pre .1))
+    (release-room _ _ _ _ (entry .pre .0) (read .merging .ensures) .1, room-within 9 2 _ _ _ (omega arith) (entry .pre .1))
 
 unlink-noted-requires-2 : tie.Need-unlink-noted-requires-2
 unlink-noted-requires-2 c κs =
@@ -24,7 +25,7 @@ unlink-noted-requires-2 c κs =
     let entry = read .before .before .before .before in
     let kept = left .unlink-noted .kept .1 in
     let room = room-on 2 7 _ _ _ _ _ _ (entry .pre .1) (kept .0) (kept .1 .0) (left .unlink-noted .ensures .undoes) in
-    (release-room _ _ _ _ (entry .pre .0) (read .merging .ensures) .2, room-part 2 5 _ _ _ room)
+    (release-room _ _ _ _ (entry .pre .0) (read .merging .ensures) .2, room-within 7 2 _ _ _ (omega arith) room)
 
 free-noted-requires : tie.Need-free-noted-requires
 free-noted-requires c κs =
