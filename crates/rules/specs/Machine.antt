@@ -1,5 +1,4 @@
 -- THE RULES WITHOUT MEMORY: the same calls on a model, with no words, no links, no tags. What a heap's answers are, whatever its memory holds.
-use mathlib.Core.Bool.{false}
 use mathlib.Core.List.{List, [], _∷_, _++_}
 use Prim.Native.Nat.{ℕ, suc, _+_, _-_, _*_}
 use lib.Dec.{eqb, leb, ltb}
@@ -29,7 +28,7 @@ madeM n =
     record {
       cs = free (4 * (n - 1)) ∷ [];
       orders = push (λ k. []) (classOf (4 * (n - 1))) 6;
-      figs = record { words = n; cached = []; inUse = 0; committed = 0; peak = 0; high = 0; flag = false };
+      figs = record { words = n; cached = []; inUse = 0; committed = 0; peak = 0; high = 0; flag = 0 };
     }
 
 -- HANDING OUT: the listed chunk x of n bytes taken for z
