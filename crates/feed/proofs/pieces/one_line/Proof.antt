@@ -1,31 +1,37 @@
-use native.Mathlib.Nat.{le-refl}
-use Prim.Native.Nat.{_+_}
+-- `feed::pieces::one_line` meets its contract: a line with its line feed is answered, one without goes on.
 use mathlib.Core.Path.{ap}
+use Prim.Native.Nat.{_+_, _-_}
+use native.Mathlib.Nat.{le-refl}
 use native.Mathlib.Omega.{arith}
-use lib.ListN.{take}
-use Rattle.heap.specs.Seen.{seen}
-use Rattle.feed.specs.Reading.{Reading, textOf}
-use Rattle.feed.proofs.Laws.{took-whole, took-open}
+use lib.ListN.{length, drop, length-drop}
+use lib.Seq.{length-take-le}
 use borrow.Author.Needs.{needs}
+use Rattle.feed.specs.Reading.{Reading}
+use Rattle.feed.specs.Feeding.{stands}
+use Rattle.feed.proofs.Laws.{read-rest, took-whole, took-open}
 use Rattle.feed.proofs.pieces.one_line.Statement.{statement}
 use Rattle.feed.proofs.pieces.one_line.Tie as tie
+
+sub-read-on : tie.Need-sub-read-on
+sub-read-on c = search needs
+
+part-read-on-start : tie.Need-part-read-on-start
+part-read-on-start c = search needs
+
+part-read-on-end : tie.Need-part-read-on-end
+part-read-on-end c = search needs
 
 read-on-requires : tie.Need-read-on-requires
 read-on-requires c κs = search needs
 
-frame-requires : tie.Need-frame-requires
-frame-requires c κs = search needs
+add-taken : tie.Need-add-taken
+add-taken c = search needs
 
 answer-requires : tie.Need-answer-requires
 answer-requires c κs = search needs
 
-none-requires : tie.Need-none-requires
-none-requires c κs = search needs
-
-add-t21 : tie.Need-add-t21
-add-t21 c =
-    let entry = c .before .before .before .before .before .before .before .before .before .before .before .before .before .before .before .before .before .before in
-    omega (arith, entry .pre .1, entry .good)
+add-t25 : tie.Need-add-t25
+add-t25 c = omega (arith, c .before .before .before .before .before .before .before .before .before .before .before .before .before .before .before .before .before .before .pre .1, c .before .before .before .before .before .before .before .before .before .before .before .before .before .before .before .before .before .before .good)
 
 same-length : tie.Need-same-length
 same-length c = search needs
@@ -35,28 +41,41 @@ same-length-2 c = search needs
 
 returns : tie.Need-returns
 returns c =
-    let at-answer = c .before .before .before .before .before in
-    let at-frame = at-answer .before in
-    let at-1 = at-frame .before .before .before in
-    let at-read-on = at-1 .before .before in
-    let entry = at-read-on .before .before .before .before .before .before .before in
-    (took-whole (record { heap = seen (entry .args .fed .trace .rec) (entry .args .memory .now); line = textOf (entry .args .fed .trace .line); out = take (entry .args .fed .filled) (entry .args .out .now) }) _ _ (at-read-on .read-on .ensures .0) _ _ _ _ (at-1 .if1 .taken) (at-frame .frame .ensures) (c .none .ensures) (at-answer .answer .ensures), ap (λ (x : Reading). x .rest) (at-read-on .read-on .ensures .0), omega (arith, at-read-on .read-on .ensures .1, entry .pre .0), omega (arith, at-read-on .read-on .ensures .2, entry .pre .0), entry .pre .1, le-refl (entry .args .fed .filled + 19))
+    let stood = stands (c .before .before .before .before .before .before .before .before .before .before .before .before .before .before .before .before .before .before .args .fed) (c .before .before .before .before .before .before .before .before .before .before .before .before .before .before .before .before .before .before .args .memory .now) (c .before .before .before .before .before .before .before .before .before .before .before .before .before .before .before .before .before .before .args .out .now) in
+    let read = read-rest _ (c .before .before .before .before .before .before .before .before .before .before .before .before .before .before .before .before .before .before .args .input .now) (c .before .before .before .before .before .before .before .before .before .before .before .before .before .before .before .before .before .before .args .fed .taken) (c .before .before .before .before .before .before .before .before .before .before .read-on .result) (c .before .before .before .before .before .before .before .before .before .before .read-on .ensures .0) in
+    let part = length-take-le (length (c .before .before .before .before .before .before .before .before .before .before .before .before .before .before .before .before .before .before .args .input .now) - c .before .before .before .before .before .before .before .before .before .before .before .before .before .before .before .before .before .before .args .fed .taken) (drop (c .before .before .before .before .before .before .before .before .before .before .before .before .before .before .before .before .before .before .args .fed .taken) (c .before .before .before .before .before .before .before .before .before .before .before .before .before .before .before .before .before .before .args .input .now)) (omega (arith, length-drop (c .before .before .before .before .before .before .before .before .before .before .before .before .before .before .before .before .before .before .args .fed .taken) (c .before .before .before .before .before .before .before .before .before .before .before .before .before .before .before .before .before .before .args .input .now))) in (
+      took-whole stood _ _ read _ _ (c .before .before .before .before .before .before .before .if1 .taken) (c .before .before .before .before .answer .ensures),
+      ap (λ (x : Reading). x .rest) read,
+      omega (arith, c .before .before .before .before .before .before .before .before .before .before .read-on .ensures .1, part, c .before .before .before .before .before .before .before .before .before .before .before .before .before .before .before .before .before .before .pre .0),
+      omega (arith, c .before .before .before .before .before .before .before .before .before .before .read-on .ensures .2, part, c .before .before .before .before .before .before .before .before .before .before .before .before .before .before .before .before .before .before .pre .0),
+      c .before .before .before .before .before .before .before .before .before .before .before .before .before .before .before .before .before .before .pre .1,
+      le-refl (c .before .before .before .before .before .before .before .before .before .before .before .before .before .before .before .before .before .before .args .fed .filled + 19),
+    )
 
 returns-2 : tie.Need-returns-2
 returns-2 c =
-    let at-read-on = c .before .before in
-    let entry = at-read-on .before .before .before .before .before .before .before in
-    (took-open (record { heap = seen (entry .args .fed .trace .rec) (entry .args .memory .now); line = textOf (entry .args .fed .trace .line); out = take (entry .args .fed .filled) (entry .args .out .now) }) _ _ (at-read-on .read-on .ensures .0) (c .if1 .left), ap (λ (x : Reading). x .rest) (at-read-on .read-on .ensures .0), omega (arith, at-read-on .read-on .ensures .1, entry .pre .0), omega (arith, at-read-on .read-on .ensures .2, entry .pre .0), omega (arith, entry .pre .1), omega arith)
+    let stood = stands (c .before .before .before .before .before .before .before .before .before .before .before .args .fed) (c .before .before .before .before .before .before .before .before .before .before .before .args .memory .now) (c .before .before .before .before .before .before .before .before .before .before .before .args .out .now) in
+    let read = read-rest _ (c .before .before .before .before .before .before .before .before .before .before .before .args .input .now) (c .before .before .before .before .before .before .before .before .before .before .before .args .fed .taken) (c .before .before .before .read-on .result) (c .before .before .before .read-on .ensures .0) in
+    let part = length-take-le (length (c .before .before .before .before .before .before .before .before .before .before .before .args .input .now) - c .before .before .before .before .before .before .before .before .before .before .before .args .fed .taken) (drop (c .before .before .before .before .before .before .before .before .before .before .before .args .fed .taken) (c .before .before .before .before .before .before .before .before .before .before .before .args .input .now)) (omega (arith, length-drop (c .before .before .before .before .before .before .before .before .before .before .before .args .fed .taken) (c .before .before .before .before .before .before .before .before .before .before .before .args .input .now))) in (
+      took-open stood _ _ read (c .if1 .left),
+      ap (λ (x : Reading). x .rest) read,
+      omega (arith, c .before .before .before .read-on .ensures .1, part, c .before .before .before .before .before .before .before .before .before .before .before .pre .0),
+      omega (arith, c .before .before .before .read-on .ensures .2, part, c .before .before .before .before .before .before .before .before .before .before .before .pre .0),
+      omega (arith, c .before .before .before .before .before .before .before .before .before .before .before .pre .1),
+      omega arith,
+    )
 
 pub one-line-spec : {M : Type 1} → statement M
 one-line-spec =
     tie.close
     (tie.spec
+    sub-read-on
+    part-read-on-start
+    part-read-on-end
     read-on-requires
-    frame-requires
+    add-taken
     answer-requires
-    none-requires
-    add-t21
+    add-t25
     same-length
     same-length-2
     returns
