@@ -39,8 +39,7 @@ usedHead (c ∷ cs) = c .used
 
 -- one or the other
 abbrev pub either : Bool → Bool → Bool
-either true b = true
-either false b = b
+either a b = pick a true b
 
 -- no two free chunks touch
 abbrev pub Calm : List Chunk → Type 0
