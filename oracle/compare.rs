@@ -361,7 +361,7 @@ fn changes() -> Vec<Box<dyn Fn(&mut Record)>> {
         Box::new(|r| r.peak ^= 8),
         Box::new(|r| r.high ^= 8),
         Box::new(|r| r.cached ^= 1),
-        Box::new(|r| r.fresh = !r.fresh),
+        Box::new(|r| r.fresh ^= 1),
     ];
     for class in 0..6 {
         all.push(Box::new(move |r| r.prev[class] ^= 1));

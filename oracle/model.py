@@ -52,7 +52,7 @@ class Record:
     peak: int = 0  # the most that was committed
     high: int = 0  # the largest end of a chunk taken from a list
     cached: int = 0  # the cached chunk's link, 0 for none
-    fresh: bool = False  # whether high water was just updated
+    fresh: int = 0  # whether high water was just updated: 1 if it was, else 0
 
 
 class Chunk(NamedTuple):
@@ -300,7 +300,7 @@ class Heap:
         r = self.record
         end = 4 * chunk.right
         if end > r.high:
-            r.high, r.fresh = end, True
+            r.high, r.fresh = end, 1
         r.in_use += chunk.length
         r.committed += chunk.length
         r.peak = max(r.peak, r.committed)
@@ -364,9 +364,9 @@ class Heap:
 
     def mark(self, stacklets):
         """None for "unchanged", else high water less what the stacklets take; and the flag clears."""
-        if not self.record.fresh:
+        if self.record.fresh == 0:
             return None
-        self.record.fresh = False
+        self.record.fresh = 0
         return self.record.high - BYTES_A_STACKLET * stacklets
 
     # soundness
@@ -420,6 +420,7 @@ class Heap:
             and r.committed == sum(chunk.length for chunk in used)
             and r.committed <= r.peak <= r.high <= 4 * r.words - 4
             and r.high % 8 == 0
+            and r.fresh <= 1
             and all(4 * chunk.right <= r.high for chunk in used)
         )
 

@@ -150,7 +150,7 @@ fn cached_used(record: &Record, chunks: &[Chunk]) -> bool {
     record.cached == 0 || chunks.iter().any(names)
 }
 
-/// Whether bytes in use, bytes committed, peak and high water are right. A chunk is live if used and not cached.
+/// Whether bytes in use, bytes committed, peak, high water and its flag are right. A chunk is live if used and not cached.
 fn figures_right(record: &Record, words: &[u32], chunks: &[Chunk]) -> bool {
     let used: Vec<&Chunk> = chunks.iter().filter(|chunk| chunk.used).collect();
     let is_live = |chunk: &&&Chunk| chunk.link() != record.cached as usize;
@@ -163,5 +163,6 @@ fn figures_right(record: &Record, words: &[u32], chunks: &[Chunk]) -> bool {
         && record.peak <= record.high
         && high <= 4 * words.len() - 4
         && high % 8 == 0
+        && record.fresh <= 1
         && used.iter().all(|chunk| chunk.end() <= high)
 }

@@ -39,7 +39,7 @@ impl State {
             0 => self.record.prev[class] = link,
             1 => self.record.next[class] = link,
             2 => self.record.cached = link,
-            3 => self.record.fresh = !self.record.fresh,
+            3 => self.record.fresh = some_flag(numbers),
             4 => self.record.words = near(numbers, self.record.words, number),
             5 => self.record.in_use = near(numbers, self.record.in_use, number),
             6 => self.record.committed = near(numbers, self.record.committed, number),
@@ -279,6 +279,16 @@ impl State {
         self.set_prev(first, link);
         self.set_prev(link, class);
         self.set_next(link, first);
+    }
+}
+
+/// A flag: off, on, or a damaged one.
+fn some_flag(numbers: &mut Numbers) -> u16 {
+    match numbers.below(4) {
+        0 => 0,
+        1 => 1,
+        2 => numbers.within(2, 5) as u16,
+        _ => numbers.next() as u16,
     }
 }
 

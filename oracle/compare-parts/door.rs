@@ -15,7 +15,7 @@ pub struct Record {
     pub peak: u32,
     pub high: u32,
     pub cached: u16,
-    pub fresh: bool,
+    pub fresh: u16,
 }
 
 /// An answer: number, value, free chunks compared.

@@ -397,7 +397,7 @@ impl Pair {
                 .oracle
                 .cached()
                 .map_or(0, |offset| (offset / 4 + 6) as u16),
-            fresh: self.oracle.fresh(),
+            fresh: self.oracle.fresh() as u16,
             ..Record::default()
         };
         for class in 0..6 {

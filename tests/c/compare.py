@@ -17,7 +17,7 @@ import histories
 import model
 from compare import map_of  # the map of the model's heap: tests/map/compare.py
 
-FIELDS = ("words", "in_use", "committed", "peak", "high", "cached")
+FIELDS = ("words", "in_use", "committed", "peak", "high", "cached", "fresh")
 
 
 def map_shown(heap):
@@ -121,7 +121,7 @@ def any_damage(rng, heap):
     if draw < 0.75:
         return "lent", 0, rng.randrange(len(heap.memory))
     name = rng.choice(FIELDS)
-    return name, 0, changed(rng, getattr(heap.record, name), 16 if name == "cached" else 32)
+    return name, 0, changed(rng, getattr(heap.record, name), 16 if name in ("cached", "fresh") else 32)
 
 
 def damaged_history(seed):

@@ -86,7 +86,7 @@ static void show(void)
         exit(3);
     printf("words=%" PRIu32 " in_use=%" PRIu32 " committed=%" PRIu32 " peak=%" PRIu32 " high=%" PRIu32, record.words,
         lischemur_in_use(record), lischemur_committed(record), lischemur_peak(record), lischemur_high_water(record));
-    printf(" fresh=%d cached=%u sound=%" PRIu32 " lent=%" PRIu32 " links=", record.fresh,
+    printf(" fresh=%u cached=%u sound=%" PRIu32 " lent=%" PRIu32 " links=", record.fresh,
         record.cached, lischemur_audit(record, heap, lent), lent);
     for (int k = 0; k < 6; k++)
         printf("%u/%u,", record.prev[k], record.next[k]);
@@ -148,7 +148,7 @@ static void damage(const char *line)
     if (strcmp(name, "peak") == 0) record.peak = value;
     if (strcmp(name, "high") == 0) record.high = value;
     if (strcmp(name, "cached") == 0) record.cached = (uint16_t)value;
-    if (strcmp(name, "fresh") == 0) record.fresh = value != 0;
+    if (strcmp(name, "fresh") == 0) record.fresh = (uint16_t)value;
 }
 
 /* Answers a line; its line feed was there, or it was not. */

@@ -36,7 +36,7 @@ fn layout(checks: &mut Checks) {
         peak: 0x2122_2324,
         high: 0x3132_3334,
         cached: 0x4142,
-        fresh: true,
+        fresh: 1,
     };
     let mut heap = Heap::over(record, &mut []);
     let wanted = (record.in_use, record.committed, record.peak, record.high);
@@ -45,7 +45,7 @@ fn layout(checks: &mut Checks) {
     let mark = heap.mark(0);
     checks.equal(format_args!("mark"), mark, Some(0x3132_3334));
     let marked = Record {
-        fresh: false,
+        fresh: 0,
         ..record
     };
     checks.equal(
@@ -76,7 +76,7 @@ fn layout(checks: &mut Checks) {
         peak: 24,
         high: 24,
         cached: 6,
-        fresh: true,
+        fresh: 1,
     };
     checks.equal(
         format_args!("record with a cached chunk"),
@@ -142,7 +142,7 @@ fn records(checks: &mut Checks) {
     let kept = Record {
         words: 33,
         high: 80,
-        fresh: true,
+        fresh: 1,
         ..Record::EMPTY
     };
     let mut even = vec![7; 34];
@@ -168,7 +168,7 @@ fn records(checks: &mut Checks) {
         let mut heap = Heap::over(
             Record {
                 high,
-                fresh: true,
+                fresh: 1,
                 ..Record::EMPTY
             },
             &mut [],
@@ -176,6 +176,18 @@ fn records(checks: &mut Checks) {
         let what = format_args!("mark of {high} with {stacklets}");
         checks.equal(what, heap.mark(stacklets), Some(mark));
         checks.equal(what, heap.mark(stacklets), None);
+        // the mark never refuses: a damaged flag is on
+        for fresh in [2, 255, 256, 65535] {
+            let damaged = Record {
+                high,
+                fresh,
+                ..Record::EMPTY
+            };
+            let mut heap = Heap::over(damaged, &mut []);
+            let what = format_args!("mark of {high} with a flag of {fresh}");
+            checks.equal(what, heap.mark(stacklets), Some(mark));
+            checks.equal(what, heap.mark(stacklets), None);
+        }
     }
 }
 

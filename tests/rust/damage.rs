@@ -35,7 +35,7 @@ fn damaged(mut record: Record, numbers: &mut Numbers) -> Record {
             return record;
         }
         _ => {
-            record.fresh = !record.fresh;
+            record.fresh = record.fresh.wrapping_add(1 + numbers.below(4) as u16);
             return record;
         }
     };

@@ -44,7 +44,7 @@ impl Pair<'_> {
         checks.equal(format_args!("committed"), committed.0, committed.1);
         checks.equal(format_args!("peak"), heap.peak(), oracle.peak());
         checks.equal(format_args!("high water"), heap.high_water(), oracle.high());
-        checks.equal(format_args!("its flag"), record.fresh, oracle.fresh());
+        checks.equal(format_args!("its flag"), record.fresh, oracle.fresh() as u16);
         let cached = (record.cached > 0).then(|| 4 * (record.cached as u32 - 6));
         checks.equal(format_args!("cached chunk"), cached, oracle.cached());
         for class in 0..6 {

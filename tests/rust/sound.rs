@@ -105,5 +105,6 @@ pub fn sound(record: &Record, words: &[u32]) -> bool {
         && record.peak <= record.high
         && record.high as usize <= 4 * words.len() - 4
         && record.high % 8 == 0
+        && record.fresh <= 1
         && end.is_none_or(|end| end <= record.high as usize)
 }

@@ -172,6 +172,7 @@ module _ (prev next : List Link) (f : Figures) (ws : List ℕ) where
             heap = (let y = F .heap in omega arith);
             eights = F .eights;
             ends = end-under (f .high) 0 0 cs (t .0) (omega arith) (F .end);
+            flag = F .flag;
           };
         },
       )
@@ -252,6 +253,7 @@ module _ (prev next : List Link) (f : Figures) (ws : List ℕ) where
             heap = (let y = g .heap in omega arith);
             eights = g .eights;
             end = under-end (f .high) 0 0 ds legal (omega arith) (g .ends);
+            flag = g .flag;
           };
         }
 

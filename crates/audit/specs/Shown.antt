@@ -1,6 +1,5 @@
 -- THE PAIR AS THE RULES SEE IT: a record's links and figures, beside its words, as a state of the rules. This is all of this folder that a reader of the
--- audit's contract has to read. The flag may be either, so none is shown.
-use mathlib.Core.Bool.{false}
+-- audit's contract has to read.
 use mathlib.Core.List.{List, [], _∷_}
 use Prim.Native.Nat.{ℕ}
 use lib.Dec.{eqb}
@@ -21,5 +20,5 @@ shown prev next f ws =
       prevs = numbers prev;
       nexts = numbers next;
       words = ws;
-      rest = record { words = f .words; cached = cachedOf (f .cached .0); inUse = f .«in_use»; committed = f .committed; peak = f .peak; high = f .high; flag = false };
+      rest = record { words = f .words; cached = cachedOf (f .cached .0); inUse = f .«in_use»; committed = f .committed; peak = f .peak; high = f .high; flag = f .fresh };
     }

@@ -131,3 +131,4 @@ pub record FiguresFit (f : Figures) (n sum held top : ℕ) : Type 0 where
   pub heap : f .high ≤ n * 4 - 4
   pub eights : f .high % 8 ≡ 0
   pub end : top ≤ f .high
+  pub flag : f .fresh ≤ 1

@@ -37,6 +37,8 @@ pub struct Figures {
     pub high: u32,
     // The cached chunk; link 0 for none.
     pub cached: Link,
+    // The flag: 0 off, 1 on.
+    pub fresh: u16,
 }
 
 // The word of the cached chunk's header; where the link names no chunk, the heap's length, which is no header's.
@@ -95,6 +97,9 @@ fn figures_right(f: Figures, n: usize, sum: usize, held: usize, top: usize) -> b
         return false;
     }
     if high % 8 != 0 {
+        return false;
+    }
+    if 1 < f.fresh {
         return false;
     }
     top <= high

@@ -29,7 +29,6 @@ use Rattle.rules.specs.Steps.{portion, lengthAt, unlink, link, setLeft, clearLe
 use Rattle.rules.specs.Search.{Found, nowhere, lost}
 use Rattle.rules.specs.Search as rule
 use Rattle.rules.specs.Rules.{Figures, Outcome, says, byteOf, nameOf, Chosen, none, one, serves, choose, listed, counted, released, firstFit, fromList, fromCache, serve, handOut, live, settled, takeBack}
-use Rattle.rules.specs.Test.{soundᵇ, showsᵇ, candidate, figuresᵇ}
 use Rattle.rules.specs.Making.{State, make, fresh}
 use Rattle.rules.specs.Demands.{hand, back}
 use Rattle.rules.specs.Place.{usedAt, tile, usedWalk}
@@ -78,13 +77,6 @@ make-done r q ws ws1 n en h k e er eq = rw (le-leb _ _ h, le-leb _ _ k, eq-eqb _
 
 pub ours : Edition base 65529 1
 ours = edition narrow-lawful 65529 1 narrow-fits
-
--- the test does not look at the flag
-pub sound-flag : (ps ns ws : List ℕ) (n : ℕ) (ks : List ℕ) (u k p h : ℕ) (b d : Bool)
-    → soundAt (record { prevs = ps; nexts = ns; words = ws; rest = record { words = n; cached = ks; inUse = u; committed = k; peak = p; high = h; flag = b } })
-    ≡ soundAt (record { prevs = ps; nexts = ns; words = ws; rest = record { words = n; cached = ks; inUse = u; committed = k; peak = p; high = h; flag = d } })
-unfolding soundᵇ showsᵇ candidate figuresᵇ
-sound-flag ps ns ws n ks u k p h b d = refl
 
 -- ---- PLACES
 

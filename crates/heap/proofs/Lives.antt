@@ -229,7 +229,7 @@ pub figures-made : (ws vs : List ℕ) (o : Out)
     × (o .rec .committed ≡ 0)
     × (o .rec .peak ≡ 0)
     × (o .rec .high ≡ 0)
-    × (o .rec .fresh ≡ false)
+    × (o .rec .fresh ≡ 0)
 figures-made ws vs o e z =
     let f = demand-2-made-sound ws vs o e z .figs in (
       ap (λ (g : Figures). g .inUse) f,

@@ -21,13 +21,17 @@ use Rattle.heap.specs.Seen.{emptyRecord}
 use Rattle.heap.specs.Mark.{calm, marked, markOf}
 
 -- with the flag off the record stays
-pub mark-off : (r : Record) (n : ℕ) → r .fresh ≡ false → record { mark = Unchanged; rec = r } ≡ markOf r n
-mark-off r n e = sym (ap (λ (b : Bool). marked b r n) e)
+pub mark-off : (r : Record) (n : ℕ) → r .fresh ≡ 0 → record { mark = Unchanged; rec = r } ≡ markOf r n
+mark-off r n e = sym (ap (λ (b : ℕ). marked b r n) e)
 
 -- with the flag on it clears
-pub mark-on : (r : Record) (n : ℕ) (v : ℤ) → r .fresh ≡ true → v ≡ pos (r .high) -ℤ pos (108 * n)
+pub mark-on : (r : Record) (n : ℕ) (v : ℤ) → 0 < r .fresh → v ≡ pos (r .high) -ℤ pos (108 * n)
     → record { mark = At v; rec = calm r } ≡ markOf r n
-mark-on r n v e d = ap (λ (x : ℤ). record { mark = At x; rec = calm r }) d ∙ sym (ap (λ (b : Bool). marked b r n) e)
+mark-on r n v e d = ap (λ (x : ℤ). record { mark = At x; rec = calm r }) d ∙ on (r .fresh) e
+  where
+    on : (f : ℕ) → 0 < f → record { mark = At (pos (r .high) -ℤ pos (108 * n)); rec = calm r } ≡ marked f r n
+    on zero h = absurd (omega arith)
+    on (suc f) h = refl
 
 -- a difference is no larger than the sum
 either : (t : Bool) (x y : ℤ) (m : ℕ) → mag x ≤ m → mag y ≤ m → mag (cond t x y) ≤ m
@@ -54,7 +58,7 @@ module _ (h n : ℕ) (hh : h < 2 ^ 32) (hn : n < 2 ^ 32) where
 abbrev pub raised : ℕ → Record
 raised h =
     let r = emptyRecord in
-    record { prev = r .prev; next = r .next; words = 0; «in_use» = 0; committed = 0; peak = 0; high = h; cached = r .cached; fresh = true }
+    record { prev = r .prev; next = r .next; words = 0; «in_use» = 0; committed = 0; peak = 0; high = h; cached = r .cached; fresh = 1 }
 
 -- document 01, "The mark"
 pub record Example : Type 0 where

@@ -1,5 +1,4 @@
 -- THE RECORD AND ITS WORDS AS A STATE of the rules: what the code's contracts say is said of `seen`.
-use mathlib.Core.Bool.{true, false}
 use mathlib.Core.List.{List, [], _∷_}
 use Prim.Native.Nat.{ℕ, _+_, _-_, max}
 use lib.Dec.{ltb}
@@ -50,12 +49,12 @@ link n = record { 0 = n }
 abbrev pub emptyRecord : Record
 emptyRecord =
     let zeros = link 0 ∷ link 0 ∷ link 0 ∷ link 0 ∷ link 0 ∷ link 0 ∷ [] in
-    record { prev = zeros; next = zeros; words = 0; «in_use» = 0; committed = 0; peak = 0; high = 0; cached = link 0; fresh = false }
+    record { prev = zeros; next = zeros; words = 0; «in_use» = 0; committed = 0; peak = 0; high = 0; cached = link 0; fresh = 0 }
 
 abbrev pub freshRecord : ℕ → Record
 freshRecord n =
     let selves = link 0 ∷ link 1 ∷ link 2 ∷ link 3 ∷ link 4 ∷ link 5 ∷ [] in
-    record { prev = selves; next = selves; words = n; «in_use» = 0; committed = 0; peak = 0; high = 0; cached = link 0; fresh = false }
+    record { prev = selves; next = selves; words = n; «in_use» = 0; committed = 0; peak = 0; high = 0; cached = link 0; fresh = 0 }
 
 -- the counters after a chunk of m bytes that ends at byte e came from a list
 abbrev pub countedIn : Record → ℕ → ℕ → Record
@@ -69,7 +68,7 @@ countedIn r m e =
       peak = max (r .peak) (r .committed + m);
       high = max (r .high) e;
       cached = r .cached;
-      fresh = pick (ltb (r .high) e) true (r .fresh);
+      fresh = pick (ltb (r .high) e) 1 (r .fresh);
     }
 
 -- after n bytes were released, with i bytes in use and the chunk l cached

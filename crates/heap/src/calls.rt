@@ -53,6 +53,7 @@ impl Record {
             peak: self.peak,
             high: self.high,
             cached,
+            fresh: self.fresh,
         };
         audit::audit(prev, next, figures, heap)
     }

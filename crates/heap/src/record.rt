@@ -4,7 +4,6 @@
 // It is plain data, passed and handed back by value; all bytes zero is the empty record, as a kernel's static memory is at reset.
 ghost use mathlib.Core.Path.{_≡_};
 ghost use Prim.Native.Nat.{_+_, _-_, _<_, _^_, max};
-ghost use mathlib.Core.Bool.{true};
 ghost use lib.Dec.{ltb};
 ghost use Rattle.words.specs.Choice.{pick};
 ghost use Rattle.heap.specs.Seen.{emptyRecord, freshRecord, withCached, countedIn, countedOut, stored, withPrevs, withNexts};
@@ -29,8 +28,8 @@ pub struct Record {
     pub high: u32,
     // the cached chunk; link 0, which names no chunk, if there is none
     pub cached: Link,
-    // high water has risen since the mark was last read
-    pub fresh: bool,
+    // whether high water has risen since the mark was last read: 1 if it has, else 0; any other value is damaged
+    pub fresh: u16,
 }
 
 // What the mark says: nothing new, or high water less the stacks' share.
@@ -71,7 +70,7 @@ impl Record {
             peak: 0,
             high: 0,
             cached: Link(0),
-            fresh: false,
+            fresh: 0,
         }
     }
 
@@ -88,7 +87,7 @@ impl Record {
             peak: 0,
             high: 0,
             cached: Link(0),
-            fresh: false,
+            fresh: 0,
         }
     }
 
@@ -120,12 +119,13 @@ impl Record {
         self.high
     }
 
-    // The mark of allocator/mod.rs: if high water has risen, high water less 108 bytes a stacklet, and the flag clears.
+    // The mark of allocator/mod.rs: if high water has risen, high water less 108 bytes a stacklet, and the flag clears. It never refuses: a flag of
+    // any value but 0 is on.
     pub fn mark(self, stacklets: u32) -> Marked
         ensures { λ r. ⌜ r ≡ markOf self stacklets ⌝ }
     {
         let fresh = self.fresh;
-        if !fresh {
+        if fresh == 0 {
             return Marked {
                 mark: Mark::Unchanged,
                 rec: self,
@@ -133,7 +133,7 @@ impl Record {
         }
         let high = self.high;
         let mut rec = self;
-        rec.fresh = false;
+        rec.fresh = 0;
         let stacks = Self::STACKLET * (stacklets as u64);
         let top = high as u64;
         Marked {

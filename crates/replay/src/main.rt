@@ -131,8 +131,7 @@ fn put_map(output: Output, out: &mut [u8], rec: Record, memory: &[u32]) -> Outpu
 fn put_figures(output: Output, out: &mut [u8], rec: Record) -> Output
     requires { ⌜ 19 ≤ length (now out) ⌝ }
 {
-    let fresh = rec.fresh;
-    let flag: u32 = if fresh { 1 } else { 0 };
+    let flag = rec.fresh as u32;
     let cached = rec.cached.0 as u32;
     let figures = [
         rec.words,

@@ -183,11 +183,13 @@ tells-figures f b cs =
       high = p .1 .1 .1 .0;
       heap = p .1 .1 .1 .1 .0;
       eights = p .1 .1 .1 .1 .1 .0;
-      ends = p .1 .1 .1 .1 .1 .1;
+      ends = p .1 .1 .1 .1 .1 .1 .0;
+      flag = p .1 .1 .1 .1 .1 .1 .1;
     })
-    (λ r. (r .inUse, (r .committed, (r .peak, (r .high, (r .heap, (r .eights, r .ends)))))))
+    (λ r. (r .inUse, (r .committed, (r .peak, (r .high, (r .heap, (r .eights, (r .ends, r .flag))))))))
     (tells-and (tells-eq (f .inUse) (liveSum (f .cached) 0 cs)) (tells-and (tells-eq (f .committed) (usedSum cs)) (tells-and (tells-le (f .committed) (f .peak))
-    (tells-and (tells-le (f .peak) (f .high)) (tells-and (tells-le (f .high) b) (tells-and (tells-eq (f .high % 8) 0) (tells-under (f .high) 0 cs)))))))
+    (tells-and (tells-le (f .peak) (f .high)) (tells-and (tells-le (f .high) b) (tells-and (tells-eq (f .high % 8) 0)
+    (tells-and (tells-under (f .high) 0 cs) (tells-le (f .flag) 1))))))))
 
 -- with the figures given, the test tells whether s shows m
 pub tells-shows : {S : Type 0} (op : Ops S Figures) (most places : ℕ) (s : S) (m : Model) → op .rest s ≡ m .figs

@@ -23,7 +23,7 @@ selves = 0 ∷ 1 ∷ 2 ∷ 3 ∷ 4 ∷ 5 ∷ []
 
 -- the figures of n words at the start
 abbrev pub begun : ℕ → Figures
-begun n = record { words = n; cached = []; inUse = 0; committed = 0; peak = 0; high = 0; flag = false }
+begun n = record { words = n; cached = []; inUse = 0; committed = 0; peak = 0; high = 0; flag = 0 }
 
 -- the empty record beside the words ws; and one with empty lists
 abbrev pub empty : List ℕ → State

@@ -2,7 +2,6 @@
 -- as the machine without memory makes them, each answer exactly when with no premise, the figures after each call, and which words making writes.
 use mathlib.Core.Path.{_≡_}
 use mathlib.Core.Logic.{_≢_}
-use mathlib.Core.Bool.{true}
 use mathlib.Core.List.{List}
 use Prim.Native.Nat.{ℕ, _+_, _-_, _≤_, _<_, max}
 use lib.ListN.{length, getD}
@@ -28,7 +27,7 @@ pub record CountedUp (f g : Figures) (l e : ℕ) : Type 0 where
   pub peak : g .peak ≡ max (f .peak) (f .committed + l)
   pub high : g .high ≡ max (f .high) e
   -- the flag goes on exactly where high water rises
-  pub risen : f .high < e → g .flag ≡ true
+  pub risen : f .high < e → g .flag ≡ 1
   pub below : e ≤ f .high → g .flag ≡ f .flag
 
 -- after tasks hold i bytes, and only that or the cache changed: committed, the marks and the flag stay

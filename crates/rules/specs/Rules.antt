@@ -22,7 +22,7 @@ pub record Figures : Type 0 where
   pub committed : ℕ
   pub peak : ℕ
   pub high : ℕ
-  pub flag : Bool
+  pub flag : ℕ
 
 -- what a call gives
 pub record Outcome (S : Type 0) : Type 0 where
@@ -80,7 +80,7 @@ counted r m e =
       committed = r .committed + m;
       peak = max (r .peak) (r .committed + m);
       high = max (r .high) e;
-      flag = pick (ltb (r .high) e) true (r .flag);
+      flag = pick (ltb (r .high) e) 1 (r .flag);
     }
 
 -- after a chunk of n bytes was released, ks staying cached and tasks holding i bytes

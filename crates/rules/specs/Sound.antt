@@ -44,6 +44,8 @@ pub record FiguresRight (f : Figures) (b : ℕ) (cs : List Chunk) : Type 0 where
   pub heap : f .high ≤ b
   pub eights : f .high % 8 ≡ 0
   pub ends : Under (f .high) 0 cs
+  -- the flag is off, 0, or on, 1
+  pub flag : f .flag ≤ 1
 
 module _ {S : Type 0} (op : Ops S Figures) (most places : ℕ) where
   -- the state s shows the model m

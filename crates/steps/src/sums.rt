@@ -1,6 +1,5 @@
 // Sums on two or three numbers: what a request gets of a chunk, and what the counters become.
 ghost use mathlib.Core.Path.{_≡_};
-ghost use mathlib.Core.Bool.{true};
 ghost use Prim.Native.Nat.{_-_, max};
 ghost use lib.Dec.{ltb};
 ghost use Rattle.words.specs.Choice.{pick};
@@ -32,8 +31,8 @@ pub fn less(a: u32, b: u32) -> u32
 }
 
 // The flag after a handout that ends at `end`: on if high water rises, else as it was.
-pub fn risen(high: u32, end: u32, fresh: bool) -> bool
-    ensures { λ r. ⌜ r ≡ pick (ltb high end) true fresh ⌝ }
+pub fn risen(high: u32, end: u32, fresh: u16) -> u16
+    ensures { λ r. ⌜ r ≡ pick (ltb high end) 1 fresh ⌝ }
 {
-    if high < end { true } else { fresh }
+    if high < end { 1 } else { fresh }
 }

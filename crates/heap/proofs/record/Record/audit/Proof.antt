@@ -1,7 +1,5 @@
--- `heap::record::Record::audit` meets its contract: the audit's answer, for which the flag does not matter.
-use mathlib.Core.Path.{_∙_}
+-- `heap::record::Record::audit` meets its contract: it is the audit's answer.
 use borrow.Author.Needs.{needs}
-use Rattle.heap.proofs.Answers.{sound-flag}
 use Rattle.heap.proofs.record.Record.audit.Statement.{statement}
 use Rattle.heap.proofs.record.Record.audit.Tie as tie
 
@@ -9,7 +7,7 @@ audit-requires : tie.Need-audit-requires
 audit-requires c κs = search needs
 
 returns : tie.Need-returns
-returns c = c .audit .ensures ∙ sound-flag _ _ _ _ _ _ _ _ _ _ _
+returns c = c .audit .ensures
 
 pub audit-spec : {M : Type 1} → statement M
 audit-spec = tie.close (tie.spec audit-requires returns)

@@ -2,13 +2,12 @@
 -- difference is in range.
 use native.Mathlib.Omega.{arith}
 use borrow.Author.Needs.{needs}
-use borrow.Author.Tests.{not-true, not-false}
 use Rattle.heap.proofs.Marks.{mark-off, mark-on, mark-fits, mark-is}
 use Rattle.heap.proofs.record.Record.mark.Statement.{statement}
 use Rattle.heap.proofs.record.Record.mark.Tie as tie
 
 returns : tie.Need-returns
-returns c = mark-off (c .before .args .self) (c .before .args .stacklets) (not-true _ (c .if1 .taken))
+returns c = mark-off (c .before .args .self) (c .before .args .stacklets) (c .if1 .taken)
 
 mul-stacks : tie.Need-mul-stacks
 mul-stacks c = search needs
@@ -27,7 +26,7 @@ sub-t13 c = mark-fits (c .before .args .self .high) (c .before .args .stacklets)
 
 returns-2 : tie.Need-returns-2
 returns-2 c =
-    mark-on (c .before .args .self) (c .before .args .stacklets) _ (not-false _ (c .if1 .left))
+    mark-on (c .before .args .self) (c .before .args .stacklets) _ (omega arith)
     (mark-is (c .before .args .self .high) (c .before .args .stacklets) (omega arith) (omega arith))
 
 pub mark-spec : {M : Type 1} → statement M
