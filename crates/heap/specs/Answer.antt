@@ -6,7 +6,6 @@ use Prim.Native.Nat.{ℕ, _≤_, _<_, _%_}
 use Rattle.rules.specs.Rules.{Outcome, says, Chosen, none, one, choose}
 use Rattle.rules.specs.Steps.{lengthAt}
 use Rattle.rules.specs.Making.{State}
-use Rattle.rules.specs.Machine.{answer}
 use Rattle.rules.specs.Machine as rule
 use Rattle.rules.specs.Test.{soundᵇ}
 use Rattle.heap.specs.declared.calls.Answer.{Answer}
@@ -15,13 +14,13 @@ use Rattle.heap.specs.Seen.{base}
 
 -- of each case its number; what is returned, the payload's offset for a handout, 0 otherwise; and how many free chunks were compared with the rounded size
 abbrev pub said : Answer → rule.Answer
-said (Done p c) = answer 0 (p .0) c
-said ZeroSize = answer 1 0 0
-said TooLarge = answer 2 0 0
-said (NoFit c) = answer 3 0 c
-said NotLive = answer 4 0 0
-said Damaged = answer 5 0 0
-said BadLength = answer 6 0 0
+said (Done p c) = record { number = 0; value = p .0; compared = c }
+said ZeroSize = record { number = 1; value = 0; compared = 0 }
+said TooLarge = record { number = 2; value = 0; compared = 0 }
+said (NoFit c) = record { number = 3; value = 0; compared = c }
+said NotLive = record { number = 4; value = 0; compared = 0 }
+said Damaged = record { number = 5; value = 0; compared = 0 }
+said BadLength = record { number = 6; value = 0; compared = 0 }
 
 -- the three of them
 abbrev pub number : Answer → ℕ

@@ -13,7 +13,8 @@ use Rattle.rules.specs.Lists.{Mem, Distinct, Seg}
 use Rattle.rules.proofs.Walk.{walk-ring}
 use Rattle.rules.specs.Ops.{Ops}
 use Rattle.rules.proofs.Rings.{ring-once}
-use Rattle.rules.specs.Chunks.{Chunk, total, Legal, Calm, usedHead, either, usedSum}
+use Rattle.rules.specs.Chunks.{Chunk, total, Legal, Calm, usedHead, usedSum}
+use Rattle.rules.specs.Test.{either}
 use Rattle.rules.specs.Tags.{Tags, headTag}
 use Rattle.rules.proofs.Tags.{Foot}
 use Rattle.rules.specs.Exact.{Slot, slot, In, frees, Exact}

@@ -97,7 +97,6 @@ module _ {S : Type 0} {op : Ops S Figures} {most places : ℕ} (E : Edition op m
     shows = m;
     left = a;
     right = b;
-    figures = a .figs ∙ sym (b .figs);
     tags = λ i g. tags-agree (op .word s) (op .word t) 0 true (m .cs) (a .tags) (b .tags) i g;
     nexts = λ k x h i. (seg-agree (op .next s) (op .prev s) (op .next t) (op .prev t) k (m .orders k) k (a .lists k h) (b .lists k h)) .0 x i;
     prevs = λ k x h i. (seg-agree (op .next s) (op .prev s) (op .next t) (op .prev t) k (m .orders k) k (a .lists k h) (b .lists k h)) .1 x i;

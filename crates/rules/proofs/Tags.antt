@@ -8,7 +8,8 @@ use Prim.Native.Nat.{ℕ, _+_, _-_, _/_, _≤_, _<_}
 use native.Mathlib.Nat.{add-zero, add-assoc}
 use native.Mathlib.Omega.{arith}
 use Rattle.words.specs.Choice.{pick, bit}
-use Rattle.rules.specs.Chunks.{Chunk, free, total, Legal, Calm, either}
+use Rattle.rules.specs.Chunks.{Chunk, free, total, Legal, Calm}
+use Rattle.rules.specs.Test.{either}
 use Rattle.rules.proofs.Chunks.{usedLast}
 use Rattle.rules.specs.Exact.{Slot, slot, In, frees}
 use Rattle.rules.proofs.Exact.{frees-from}

@@ -99,13 +99,9 @@ pub record Answer : Type 0 where
   pub value : ℕ
   pub compared : ℕ
 
--- one, written out
-abbrev pub answer : ℕ → ℕ → ℕ → Answer
-answer n v c = record { number = n; value = v; compared = c }
-
 -- an outcome without its state
 abbrev pub answerOf : {S : Type 0} → Outcome S → Answer
-answerOf o = answer (o .number) (o .value) (o .compared)
+answerOf o = record { number = o .number; value = o .value; compared = o .compared }
 
 -- a request to a model
 unfoldable pub callM : ℕ → Request → Model → Outcome Model

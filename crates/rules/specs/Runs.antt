@@ -35,7 +35,6 @@ module _ {S : Type 0} (op : Ops S Figures) (most places : ℕ) where
     pub shows : Model
     pub left : Shows op most places s shows
     pub right : Shows op most places t shows
-    pub figures : op .rest s ≡ op .rest t
     pub tags : (i : ℕ) → Tag 0 (shows .cs) i → op .word s i ≡ op .word t i
     pub nexts : (k x : ℕ) → k < 6 → Mem x (k ∷ shows .orders k) → op .next s x ≡ op .next t x
     pub prevs : (k x : ℕ) → k < 6 → Mem x (k ∷ shows .orders k) → op .prev s x ≡ op .prev t x

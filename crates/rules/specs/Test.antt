@@ -5,7 +5,7 @@ use mathlib.Core.List.{List, [], _∷_}
 use Prim.Native.Nat.{ℕ, zero, suc, _+_, _-_, _*_, _/_, _%_}
 use lib.Dec.{eqb, leb}
 use Rattle.words.specs.Choice.{pick, bit}
-use Rattle.rules.specs.Chunks.{Chunk, total, usedHead, either, usedSum}
+use Rattle.rules.specs.Chunks.{Chunk, total, usedHead, usedSum}
 use lib.ListN.{length}
 use Rattle.rules.specs.Lists.{walk}
 use Rattle.rules.specs.Exact.{Slot, frees}
@@ -16,6 +16,10 @@ use Rattle.rules.specs.Ops.{Ops}
 use Rattle.rules.specs.Rules.{Figures, byteOf, listed}
 use Rattle.rules.specs.Machine.{Model}
 use Rattle.rules.specs.Sound.{liveSum}
+
+-- one or the other
+abbrev pub either : Bool → Bool → Bool
+either a b = pick a true b
 
 -- one and the other
 abbrev pub both : Bool → Bool → Bool
