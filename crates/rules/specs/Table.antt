@@ -11,14 +11,14 @@ use Rattle.words.specs.Links.{Width, narrow, setLinkAt}
 use Rattle.rules.specs.Steps.{unlink, link, setLeft, clearLeft, markFree, markUsed, oneChunk, returnExcess, takeChunk, cleared, emptied}
 use Rattle.rules.specs.Steps.{leftFree, rightFree, merge, merged, releaseChunk}
 use Rattle.rules.specs.State.{ops}
-use Rattle.rules.specs.Search.{findWalk, searchAll}
-use Rattle.rules.specs.Place.{usedAt, usedWalk}
+use Rattle.rules.specs.Search.{find, inTurn}
+use Rattle.rules.specs.Place.{usedAt, tile}
 use Rattle.rules.specs.Lists.{walk}
 use Rattle.rules.specs.Exact.{frees}
 use Rattle.rules.specs.Rules.{Outcome, choose, listed, firstFit, fromList, fromCache, serve, handOut, live, settled, takeBack}
 use Rattle.rules.specs.Making.{State, make}
 use Rattle.rules.specs.Machine.{Request, ask, give}
-use Rattle.rules.specs.Test.{legalᵇ, calmᵇ, tagsᵇ, segᵇ, belowᵇ, everyᵇ, slotᵇ, exactᵇ, distinctᵇ, underᵇ, cacheᵇ, figuresᵇ, showsᵇ, candidate, soundᵇ, tile}
+use Rattle.rules.specs.Test.{legalᵇ, calmᵇ, tagsᵇ, segᵇ, belowᵇ, everyᵇ, slotᵇ, exactᵇ, distinctᵇ, underᵇ, cacheᵇ, figuresᵇ, showsᵇ, candidate, soundᵇ}
 use Rattle.rules.specs.Runs.{call}
 
 -- a kind of heap: link width, longest length, cache places
@@ -85,6 +85,6 @@ table =
 -- THE ONE CLAIM
 pub claim : all base table ≡ true
 unfolding call handOut takeBack live choose listed make serve fromCache fromList firstFit settled link unlink setLeft clearLeft markFree markUsed oneChunk
-    returnExcess takeChunk cleared emptied leftFree rightFree merge merged releaseChunk setLinkAt classOf findWalk searchAll usedWalk usedAt soundᵇ showsᵇ candidate
+    returnExcess takeChunk cleared emptied leftFree rightFree merge merged releaseChunk setLinkAt classOf find inTurn usedAt soundᵇ showsᵇ candidate
     legalᵇ calmᵇ tagsᵇ segᵇ belowᵇ everyᵇ slotᵇ exactᵇ distinctᵇ underᵇ cacheᵇ figuresᵇ tile walk frees
 claim = refl
