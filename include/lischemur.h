@@ -27,7 +27,7 @@
  * out otherwise.
  *
  * What the library calls and does not have, since every C program for the processor is linked with it (-lc -lgcc, say):
- *   x86-64     memset
+ *   64 bits    memset, on x86-64 and on 64-bit Arm
  *   Cortex-M   __aeabi_memcpy, __aeabi_memclr4 and __aeabi_memclr8; for the map __aeabi_uldivmod; on a Cortex-M0+ also
  *              __aeabi_lmul and __clzsi2
  *   RISC-V     memcpy and memset; for the map __udivdi3
