@@ -143,7 +143,8 @@ module _ (r : Record) (ws vs : List ℕ) (n : ℕ) (o : Out) where
   pub served-exactly : HandsOut r ws n o vs
       → Iff (number (o .answer) ≡ 0) (Allowable (ask n) × SoundIn r ws × (UnfitIn r ws (roundedOf n) → ⊥))
   served-exactly e =
-      subst (λ (x : Outcome State). Iff (x .number ≡ 0) (Allowable (ask n) × SoundIn r ws × (UnfitIn r ws (roundedOf n) → ⊥))) (sym e) (told .served (seen r ws) n)
+      subst (λ (x : Outcome State). Iff (x .number ≡ 0) (Allowable (ask n) × SoundIn r ws × (UnfitIn r ws (roundedOf n) → ⊥))) (sym e)
+      (told .served (seen r ws) n)
 
   -- 3 exactly for an allowable size, on a sound heap (one that shows a model) where nothing fits
   pub three-exactly : HandsOut r ws n o vs
