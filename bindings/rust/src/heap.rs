@@ -46,14 +46,14 @@ pub struct Heap<'a> {
 unsafe impl Send for Heap<'_> {}
 
 impl<'a> Heap<'a> {
-    /// Make a heap of all these words. `BadLength` unless there is an odd number of them, 5 to 65,529.
+    /// Make a heap of all these words. `BadLength` unless there is an odd count of them, 5 to 65,529.
     pub fn make(words: &'a mut [u32]) -> Result<Heap<'a>, Refusal> {
         let mut heap = Heap::over(Record::EMPTY, words);
         heap.make_again()?;
         Ok(heap)
     }
 
-    /// A heap that exists already, as [`into_parts`](Heap::into_parts) gave it or as memory kept it.
+    /// A heap that is there already, as [`into_parts`](Heap::into_parts) gave it or as memory kept it.
     ///
     /// Nothing is trusted: on a record and words that are not a sound heap every call is refused.
     pub fn over(record: Record, words: &'a mut [u32]) -> Heap<'a> {
