@@ -22,9 +22,9 @@
  *   - record, words and room do not overlap, and nothing else reads or writes them during a call (mask interrupts, or hold
  *     a lock).
  *
- * A slice of Rattle is a pointer and a 64-bit count in C, on every processor. `rt staticlib door` builds the library for
- * x86-64, `meter/build` for Cortex-M and 32-bit RISC-V; the assertions at the end of this file stop a compiler that lays things
- * out differently.
+ * A Rattle slice is a pointer and a 64-bit count in C, on every processor. `./run lib DIR` builds the library for this computer,
+ * x86-64 or 64-bit Arm, and with --cpu NAME for Cortex-M and 32-bit RISC-V; the assertions at the end of this file stop a compiler
+ * that lays things out differently.
  *
  * What the library calls but does not contain, since every C program for the processor links it anyway (-lc -lgcc, say):
  *   64 bits    memset, on x86-64 and on 64-bit Arm
@@ -35,7 +35,7 @@
  * Header and library belong together. What crosses the door has a layout with a number, LISCHEMUR_LAYOUT, and the library's
  * functions carry it in their names. If the linker says that lischemur_make_needs_library_of_layout_3 is undefined (the number
  * is this header's), the library is of another layout: take header and library from the same build. If it says that
- * lischemur_make is, a source was compiled with a header from before layout 2: compile it again with this one. For a
+ * lischemur_make is undefined, a source was compiled with a header from before layout 2: compile it again with this one. For a
  * microcontroller the names end in its architecture too (_for_armv7em), so that the library of one does not go into an image
  * for another: link the one that `meter/build --cpu NAME` makes for the part.
  */
