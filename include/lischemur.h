@@ -22,11 +22,11 @@
  *   - record, words and room do not overlap, and nothing else reads or writes them during a call (mask interrupts, or hold
  *     a lock).
  *
- * A slice of Rattle is a pointer and a 64-bit count in C, on every processor. `rt staticlib door` builds the library for
- * x86-64, `meter/build` for Cortex-M and 32-bit RISC-V; the assertions at the end of this file stop a compiler that lays things
- * out otherwise.
+ * A Rattle slice is a pointer and a 64-bit count in C, on every processor. `./run lib DIR` builds the library for this computer,
+ * x86-64 or 64-bit Arm, and with --cpu NAME for Cortex-M and 32-bit RISC-V; the assertions at the end of this file stop a compiler
+ * that lays things out differently.
  *
- * What the library calls and does not have, since every C program for the processor is linked with it (-lc -lgcc, say):
+ * What the library calls but does not contain, since every C program for the processor links it anyway (-lc -lgcc, say):
  *   64 bits    memset, on x86-64 and on 64-bit Arm
  *   Cortex-M   __aeabi_memcpy, __aeabi_memclr4 and __aeabi_memclr8; for the map __aeabi_uldivmod; on a Cortex-M0+ also
  *              __aeabi_lmul and __clzsi2
@@ -35,7 +35,7 @@
  * Header and library belong together. What crosses the door has a layout with a number, LISCHEMUR_LAYOUT, and the library's
  * functions carry it in their names. If the linker says that lischemur_make_needs_library_of_layout_3 is undefined (the number
  * is this header's), the library is of another layout: take header and library from the same build. If it says that
- * lischemur_make is, a source was compiled with a header from before layout 2: compile it again with this one. For a
+ * lischemur_make is undefined, a source was compiled with a header from before layout 2: compile it again with this one. For a
  * microcontroller the names end in its architecture too (_for_armv7em), so that the library of one does not go into an image
  * for another: link the one that `meter/build --cpu NAME` makes for the part.
  */
@@ -71,7 +71,7 @@ extern "C" {
 #define LISCHEMUR_LAYOUT 3
 
 /* How the library's names end on a microcontroller: in the architecture that it is compiled for (meter/parts has the list). The compiler
-   says it by the macros that Arm and RISC-V set down for C. */
+   names it by the macros that Arm and RISC-V define for C. */
 #if defined(__ARM_ARCH_PROFILE) && __ARM_ARCH_PROFILE == 'M' && __ARM_ARCH == 6
 #define LISCHEMUR_PART _for_armv6m
 #elif defined(__ARM_ARCH_PROFILE) && __ARM_ARCH_PROFILE == 'M' && __ARM_ARCH == 7 && defined(__ARM_FEATURE_DSP)
@@ -106,7 +106,7 @@ extern "C" {
 #define lischemur_peak LISCHEMUR_OF(lischemur_peak, LISCHEMUR_LAYOUT, LISCHEMUR_PART)
 #define lischemur_high_water LISCHEMUR_OF(lischemur_high_water, LISCHEMUR_LAYOUT, LISCHEMUR_PART)
 
-/* The limits: a heap has an odd count of words, and a size above the largest is refused. */
+/* The limits: a heap has an odd number of words, and a size above the largest is refused. */
 #define LISCHEMUR_LEAST_WORDS UINT32_C(5)
 #define LISCHEMUR_MOST_WORDS UINT32_C(65529)
 #define LISCHEMUR_MOST_SIZE UINT32_C(4294967284)
@@ -151,18 +151,18 @@ enum lischemur_number {
     LISCHEMUR_ZERO_SIZE = 1,  /* zero bytes were asked for */
     LISCHEMUR_TOO_LARGE = 2,  /* more than LISCHEMUR_MOST_SIZE bytes were asked for */
     LISCHEMUR_NO_FIT = 3,     /* neither the cached chunk nor a listed one serves; a listed one has to reach LISCHEMUR_SERVES(size) */
-    LISCHEMUR_NOT_LIVE = 4,   /* the offset is no payload's that is handed out: a second free, say */
+    LISCHEMUR_NOT_LIVE = 4,   /* no payload that is handed out starts at this offset: a second free, say */
     LISCHEMUR_DAMAGED = 5,    /* record and words are not sound together, or no heap was made */
-    LISCHEMUR_BAD_LENGTH = 6, /* from making: a heap cannot be made of that many words */
-    LISCHEMUR_NO_FRAME = 7    /* the trace program's alone: no call here replies it */
+    LISCHEMUR_BAD_LENGTH = 6, /* from making: not an accepted number of words (odd, 5 to 65,529) */
+    LISCHEMUR_NO_FRAME = 7    /* for the trace program only: no call here gives it */
 };
 
 /* From the map's call, the same 6: the map is longer than the room. One number, so a switch has one case for both names. */
 #define LISCHEMUR_NO_ROOM LISCHEMUR_BAD_LENGTH
 
 /*
- * What the heap knows beside its words. All bytes zero is the empty record, as static memory is at reset. Read it as you
- * like; write it by calls alone. A link is 0 to 5 for a list's sentinel, and w + 6 for the chunk whose header is word w.
+ * What the heap knows besides its words. All bytes zero is the empty record, as static memory is at reset. Read it freely;
+ * only the calls may write it. A link is 0 to 5 for a list's sentinel, and w + 6 for the chunk whose header is word w.
  */
 typedef struct lischemur_record {
     uint16_t prev[6];   /* of each list, the link of its last chunk */
@@ -185,15 +185,15 @@ typedef struct lischemur_reply {
 
 /* What the mark says. */
 typedef struct lischemur_marking {
-    int64_t mark;            /* high water less 108 bytes a stacklet; 0 if nothing changed */
+    int64_t mark;            /* high water less 108 bytes per stacklet; 0 if nothing changed */
     uint32_t changed;        /* 1 if high water has risen since the mark was last read, else 0 */
     lischemur_record record; /* the record with its flag off: store it in the old one's place */
 } lischemur_marking;
 
 /*
- * Makes a heap of the whole run, and starts its record anew whatever that held. `words` says once more how many words the
- * heap is to have: unless it is `heap_words`, odd, and from LISCHEMUR_LEAST_WORDS to LISCHEMUR_MOST_WORDS, the reply is 6
- * and the record stays as it was. No payload of an earlier heap on these words is live afterwards.
+ * Makes a heap of the whole run, and starts its record anew, whatever that held. `words` repeats how many words the heap
+ * is to have: unless it equals `heap_words`, is odd, and lies between LISCHEMUR_LEAST_WORDS and LISCHEMUR_MOST_WORDS, the
+ * reply is 6 and the record stays as it was. No payload of an earlier heap on these words is live afterwards.
  */
 lischemur_reply lischemur_make(lischemur_record *record, uint32_t *heap, uint64_t heap_words, uint32_t words);
 
@@ -210,7 +210,7 @@ lischemur_reply lischemur_take_back(lischemur_record *record, uint32_t *heap, ui
 uint32_t lischemur_audit(lischemur_record record, const uint32_t *heap, uint64_t heap_words);
 
 /*
- * Writes the heap's map at the start of the room: a line for each chunk, left to right, as many as the reply's value says.
+ * Writes the heap's map at the start of the room: a line for each chunk, left to right, as many lines as the reply's value says.
  * A line has two digits of kind (10 free, 11 live, 12 cached), eight of the header's offset and eight of the chunk's length,
  * hexadecimal in upper case, and a line feed; no zero byte ends the map. Replies 5, or 6 if the room is too short, tested in
  * that order. The room past the lines keeps its bytes, and after a 5 or a 6 all of it does.

@@ -196,7 +196,7 @@ States that tell these apart, and one that shows that it is the same wherever th
 | Heap, by chunks | Audit over walk | Spread |
 |---|---|---|
 {}
-On the stack the audit needs 128 bytes of marks beside its locals, whatever the length of the heap.
+On the stack the audit needs 128 bytes of marks besides its locals, whatever the length of the heap.
 
 ## Calls against the Rust
 

@@ -78,7 +78,7 @@ fn main() {
     let (folder, what_to_do) = match env::var_os("LISCHEMUR_LIB") {
         Some(folder) => (
             PathBuf::from(folder),
-            "LISCHEMUR_LIB is to name the folder that has it".into(),
+            "LISCHEMUR_LIB must name the folder that contains it".into(),
         ),
         None => {
             let (folder, command) = kept(&target);

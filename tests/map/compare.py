@@ -394,14 +394,14 @@ def check_whys():
 
 
 def check_documents():
-    """The picture in docs/ and the lines and bar in README.md are what is written today."""
+    """The picture in docs/ and the lines and bar in docs/MAP.md are what is written today."""
     chunks, _ = heapmap.read((ROOT / "crates/chart/stdout").read_bytes())
     if (ROOT / "docs/heap-map.svg").read_text() != heapmap.picture(chunks):
         fail("docs/heap-map.svg is old: tools/heapmap crates/chart/stdout --svg docs/heap-map.svg")
     said = ask("chart", b"0000000021\n" + b"010000000C\n" * 3 + b"0200000004\n0200000024\n").decode()
     shown = said.splitlines() + [""] + heapmap.bar(heapmap.read(said.encode())[0])
-    if "".join("    %s\n" % line if line else "\n" for line in shown) not in (ROOT / "README.md").read_text():
-        fail("README.md's example of a map is old; it is now", *shown)
+    if "".join("    %s\n" % line if line else "\n" for line in shown) not in (ROOT / "docs/MAP.md").read_text():
+        fail("docs/MAP.md's example of a map is old; it is now", *shown)
 
 
 def main(arguments):

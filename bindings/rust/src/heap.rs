@@ -55,7 +55,7 @@ impl<'a> Heap<'a> {
 
     /// A heap that is there already, as [`into_parts`](Heap::into_parts) gave it or as memory kept it.
     ///
-    /// Nothing is trusted: on a record and words that are no sound heap every call is refused.
+    /// Nothing is trusted: on a record and words that are not a sound heap every call is refused.
     pub fn over(record: Record, words: &'a mut [u32]) -> Heap<'a> {
         Heap {
             record,
@@ -129,7 +129,7 @@ impl<'a> Heap<'a> {
         self.take_back(self.offset(payload).unwrap_or(NOWHERE))
     }
 
-    /// The pointer to a byte of the words, or nothing if the offset lies behind them.
+    /// The pointer to a byte of the words, or nothing if the offset lies past their end.
     pub fn pointer(&self, offset: Offset) -> Option<NonNull<u8>> {
         let at = usize::try_from(offset.0).ok()?;
         if at >= self.bytes() {
@@ -139,7 +139,7 @@ impl<'a> Heap<'a> {
         Some(unsafe { self.start.cast::<u8>().add(at) })
     }
 
-    /// The offset of a byte that a pointer points to, or nothing if it is none of the lent words'.
+    /// The offset of a byte that a pointer points to, or nothing if it is not one of the lent words'.
     pub fn offset(&self, pointer: NonNull<u8>) -> Option<Offset> {
         let at = (pointer.as_ptr() as usize).wrapping_sub(self.start.as_ptr() as usize);
         if at >= self.bytes() {
@@ -198,7 +198,7 @@ impl<'a> Heap<'a> {
         }
     }
 
-    /// If high water has risen since the mark was last read: high water less 108 bytes a stacklet,
+    /// If high water has risen since the mark was last read: high water less 108 bytes per stacklet,
     /// which may be negative.
     pub fn mark(&mut self, stacklets: u32) -> Option<i64> {
         // SAFETY: the function takes numbers only, and accepts any.

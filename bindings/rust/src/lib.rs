@@ -22,7 +22,7 @@
 //! - **Locking.** One call at a time: every call that changes the heap takes `&mut Heap`, and a
 //!   program with tasks or interrupts puts its own lock around it (`examples/global_alloc.rs` does).
 //! - **Alignment.** Payloads are 8-aligned if the words start at an address that is 4 mod 8.
-//!   [`Memory`] and [`StaticMemory`] lay words out so. More than 8 cannot be asked for.
+//!   [`Memory`] and [`StaticMemory`] lay words out that way. More than 8 cannot be asked for.
 //! - **Payloads.** The heap clears a payload, gives out a raw pointer to it, and does not read or write
 //!   it while it is live. Whoever does must know that it is; that is what `unsafe` is for there.
 //!

@@ -2,7 +2,7 @@
 //!
 //! A payload starts 4 bytes after its chunk, and chunks have lengths that are multiples of 8. So the
 //! words' own start decides how all payloads are aligned. A heap over other words works too; its
-//! payloads are then 4-aligned only.
+//! payloads are then only 4-aligned.
 
 use core::mem::offset_of;
 
@@ -12,7 +12,7 @@ pub const LEAST_WORDS: usize = 5;
 /// The most words that a heap can have.
 pub const MOST_WORDS: usize = 65_529;
 
-/// Whether a heap can have that many words: an odd count, 5 to 65,529.
+/// Whether a heap can have that many words: an odd number, 5 to 65,529.
 pub const fn accepted(words: usize) -> bool {
     LEAST_WORDS <= words && words <= MOST_WORDS && words % 2 == 1
 }
@@ -72,7 +72,10 @@ const _: () = assert!(offset_of!(Memory<5>, words) == 4);
 
 impl<const WORDS: usize> Memory<WORDS> {
     /// Refuses to build with a length that no heap can have.
-    const ACCEPTED: () = assert!(accepted(WORDS), "an odd count of words, 5 to 65,529");
+    const ACCEPTED: () = assert!(
+        accepted(WORDS),
+        "not an accepted number of words (odd, 5 to 65,529)"
+    );
 
     /// Words that are all 0.
     pub const fn new() -> Memory<WORDS> {

@@ -16,11 +16,11 @@ pub enum Refusal {
     TooLarge,
     /// Answer 3: the cached chunk does not serve, and no free chunk reaches the threshold.
     NoFit,
-    /// Answer 4: the offset is no live payload's start.
+    /// Answer 4: no live payload starts at the offset.
     NotLive,
-    /// Answer 5: the record and the words are no sound heap.
+    /// Answer 5: the record and the words are not a sound heap.
     Damaged,
-    /// Answer 6 at making: the length is no odd count of words from 5 to 65,529.
+    /// Answer 6 at making: the length is not an odd number of words from 5 to 65,529.
     BadLength,
     /// Answer 6 to a map: the room is too short.
     NoRoom,
@@ -65,7 +65,9 @@ impl fmt::Display for Refusal {
             Refusal::NoFit => out.write_str("no free chunk is large enough"),
             Refusal::NotLive => out.write_str("no live payload starts there"),
             Refusal::Damaged => out.write_str("the heap is damaged"),
-            Refusal::BadLength => out.write_str("a heap cannot have that many words"),
+            Refusal::BadLength => {
+                out.write_str("not an accepted number of words (odd, 5 to 65,529)")
+            }
             Refusal::NoRoom => out.write_str("the map is longer than the room"),
             Refusal::Unknown(number) => write!(out, "answer number {number} is unknown"),
         }
