@@ -20,7 +20,8 @@ use Rattle.rules.specs.Making.{State, make}
 use Rattle.rules.specs.Machine.{ask, give}
 use Rattle.rules.specs.Test.{legalᵇ, calmᵇ, tagsᵇ, segᵇ, belowᵇ, everyᵇ, slotᵇ, exactᵇ, distinctᵇ, underᵇ, cacheᵇ, figuresᵇ, showsᵇ, candidate, soundᵇ, tile}
 use Rattle.rules.specs.Runs.{call}
-use Rattle.rules.specs.Table.{base, made, after}
+use Rattle.rules.specs.Kind.{one}
+use Rattle.rules.specs.Table.{made, after}
 use Rattle.map.specs.Rows.{row, linesOf, wordsOf}
 use Rattle.map.specs.Layout.{mapOf}
 use Rattle.map.specs.Reading.{rowIn, standsᵇ, followsᵇ, Read, rows, bad, lineRead, readFrom, readAll}
@@ -37,7 +38,7 @@ read t = readAll 65529 1 (bytes t)
 
 -- 33 words made; 20, 12 and 52 bytes asked for; the second and the third taken back
 abbrev worn : State
-worn = after base (made base 33) (ask 20 ∷ ask 12 ∷ ask 52 ∷ give 28 ∷ give 44 ∷ []) .after
+worn = after one (made one 33) (ask 20 ∷ ask 12 ∷ ask 52 ∷ give 28 ∷ give 44 ∷ []) .after
 
 -- its map: 24 bytes live, 16 free, 56 cached, 32 free
 abbrev wornMap : String
