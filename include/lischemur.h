@@ -1,5 +1,5 @@
 /*
- * lischemur.h: the heap's door, for C11 and C++17. Link libdoor.a; it needs nothing else.
+ * lischemur.h: the heap's door, for C99 and later and C++11 and later. Link libdoor.a; it needs nothing else.
  *
  * A heap is a run of 32-bit words that you lend to each call, and a record beside it. Both are yours: the library keeps
  * nothing between calls. Offsets are bytes from the run's start, and a payload is named by its offset.
@@ -24,29 +24,80 @@
  *
  * A slice of Rattle is a pointer and a 64-bit count in C, on every processor. `rt staticlib door` builds the library for
  * x86-64, `meter/build` for a Cortex-M4; the assertions at the end of this file stop a compiler that lays things out otherwise.
+ *
+ * Header and library belong together. What crosses the door has a layout with a number, LISCHEMUR_LAYOUT, and the library's
+ * functions carry it in their names. If the linker says that lischemur_make_needs_library_of_layout_3 is undefined (the number
+ * is this header's), the library is of another layout: take header and library from the same build. If it says that
+ * lischemur_make is, a source was compiled with a header from before layout 2: compile it again with this one.
  */
 #ifndef LISCHEMUR_H
 #define LISCHEMUR_H
+
+#if defined(__cplusplus) ? __cplusplus < 201103L : !defined(__STDC_VERSION__) || __STDC_VERSION__ < 199901L
+#error "lischemur.h needs C99 or C++11: compile with -std=c99, -std=c++11 or later"
+#elif !defined(__cplusplus) && __STDC_VERSION__ < 201112L && !defined(__GNUC__)
+#error "lischemur.h needs C11 from a compiler without GNU's __attribute__: C99 alone cannot align LISCHEMUR_MEMORY"
+#else
 
 #include <stdbool.h>
 #include <stddef.h>
 #include <stdint.h>
 
-#ifdef __cplusplus
+#if defined(__cplusplus)
 #define LISCHEMUR_ALIGNED(bytes) alignas(bytes)
 #define LISCHEMUR_ASSERT(holds, text) static_assert(holds, text)
 extern "C" {
-#else
+#elif __STDC_VERSION__ >= 201112L
 #define LISCHEMUR_ALIGNED(bytes) _Alignas(bytes)
 #define LISCHEMUR_ASSERT(holds, text) _Static_assert(holds, text)
+#else
+#define LISCHEMUR_ALIGNED(bytes) __attribute__((aligned(bytes)))
+#define LISCHEMUR_ASSERTED(line) lischemur_asserted_in_line_##line
+#define LISCHEMUR_ASSERT_IN(holds, line) typedef char LISCHEMUR_ASSERTED(line)[(holds) ? 1 : -1]
+#define LISCHEMUR_ASSERT(holds, text) LISCHEMUR_ASSERT_IN(holds, __LINE__)
 #endif
+
+/* The version, and the number of the layout of what crosses the door, which is the version's second number too. */
+#define LISCHEMUR_VERSION "0.3.0"
+#define LISCHEMUR_LAYOUT 3
+
+/* The library's name of each function, by which programs of another layout do not link. */
+#define LISCHEMUR_NAMED(name, layout) name##_needs_library_of_layout_##layout
+#define LISCHEMUR_OF(name, layout) LISCHEMUR_NAMED(name, layout)
+#define lischemur_make LISCHEMUR_OF(lischemur_make, LISCHEMUR_LAYOUT)
+#define lischemur_hand_out LISCHEMUR_OF(lischemur_hand_out, LISCHEMUR_LAYOUT)
+#define lischemur_take_back LISCHEMUR_OF(lischemur_take_back, LISCHEMUR_LAYOUT)
+#define lischemur_audit LISCHEMUR_OF(lischemur_audit, LISCHEMUR_LAYOUT)
+#define lischemur_write_map LISCHEMUR_OF(lischemur_write_map, LISCHEMUR_LAYOUT)
+#define lischemur_mark LISCHEMUR_OF(lischemur_mark, LISCHEMUR_LAYOUT)
+#define lischemur_in_use LISCHEMUR_OF(lischemur_in_use, LISCHEMUR_LAYOUT)
+#define lischemur_committed LISCHEMUR_OF(lischemur_committed, LISCHEMUR_LAYOUT)
+#define lischemur_peak LISCHEMUR_OF(lischemur_peak, LISCHEMUR_LAYOUT)
+#define lischemur_high_water LISCHEMUR_OF(lischemur_high_water, LISCHEMUR_LAYOUT)
 
 /* The limits: a heap has an odd count of words, and a size above the largest is refused. */
 #define LISCHEMUR_LEAST_WORDS UINT32_C(5)
 #define LISCHEMUR_MOST_WORDS UINT32_C(65529)
 #define LISCHEMUR_MOST_SIZE UINT32_C(4294967284)
 
-/* The bytes of a map's line, and of room that suffices for the map of any heap of so many words, 5 or more. */
+/*
+ * How large a heap has to be. A payload takes a chunk of LISCHEMUR_CHUNK(size) bytes, or of 8 more if those would be left over. A search for less
+ * than 512 bytes looks only at chunks of at least the next power of two, so the free chunk that serves a size has LISCHEMUR_SERVES(size) bytes or
+ * more, and 3, no fit, is replied though a shorter one would hold the payload: a just-made heap of 127 words is one free chunk of 504 bytes and
+ * refuses 245 bytes, which would take 256 of them, since 512 are looked for. A just-made heap of LISCHEMUR_WORDS(count, size) words, and none of
+ * fewer, serves `count` handouts of `size` bytes each before any is taken back. For constants, as in LISCHEMUR_MEMORY(LISCHEMUR_WORDS(20, 48)): an
+ * argument is evaluated more than once. `size` is from 1 to 262,108, the most that the largest heap serves.
+ */
+#define LISCHEMUR_CHUNK(size) ((size) <= 12 ? UINT32_C(16) : ((size) + UINT32_C(11)) / 8 * 8)
+#define LISCHEMUR_SERVES(size)                                                                         \
+    (LISCHEMUR_CHUNK(size) >= 512 ? LISCHEMUR_CHUNK(size)                                              \
+        : LISCHEMUR_CHUNK(size) >= 256 ? UINT32_C(512)                                                 \
+        : LISCHEMUR_CHUNK(size) >= 128 ? UINT32_C(256)                                                 \
+        : LISCHEMUR_CHUNK(size) >= 64 ? UINT32_C(128)                                                  \
+        : LISCHEMUR_CHUNK(size) >= 32 ? UINT32_C(64) : UINT32_C(32))
+#define LISCHEMUR_WORDS(count, size) ((((count) - 1) * LISCHEMUR_CHUNK(size) + LISCHEMUR_SERVES(size)) / 4 + 1)
+
+/* The bytes of a map's line, and of room that suffices for the map of any heap of that many words, 5 or more. */
 #define LISCHEMUR_MAP_LINE UINT32_C(19)
 #define LISCHEMUR_MAP_ROOM(words) (((words) - 1) / 4 * LISCHEMUR_MAP_LINE)
 
@@ -65,13 +116,15 @@ enum lischemur_number {
     LISCHEMUR_DONE = 0,       /* the value is the payload's offset for a handout, the number of lines for a map, else 0 */
     LISCHEMUR_ZERO_SIZE = 1,  /* zero bytes were asked for */
     LISCHEMUR_TOO_LARGE = 2,  /* more than LISCHEMUR_MOST_SIZE bytes were asked for */
-    LISCHEMUR_NO_FIT = 3,     /* neither the cached chunk nor a listed one serves */
+    LISCHEMUR_NO_FIT = 3,     /* neither the cached chunk nor a listed one serves; a listed one has to reach LISCHEMUR_SERVES(size) */
     LISCHEMUR_NOT_LIVE = 4,   /* the offset is no payload's that is handed out: a second free, say */
     LISCHEMUR_DAMAGED = 5,    /* record and words are not sound together, or no heap was made */
-    LISCHEMUR_BAD_LENGTH = 6, /* a heap cannot be made of so many words */
-    LISCHEMUR_NO_ROOM = 6,    /* the map is longer than the room */
+    LISCHEMUR_BAD_LENGTH = 6, /* from making: a heap cannot be made of that many words */
     LISCHEMUR_NO_FRAME = 7    /* the trace program's alone: no call here replies it */
 };
+
+/* From the map's call, the same 6: the map is longer than the room. One number, so a switch has one case for both names. */
+#define LISCHEMUR_NO_ROOM LISCHEMUR_BAD_LENGTH
 
 /*
  * What the heap knows beside its words. All bytes zero is the empty record, as static memory is at reset. Read it as you
@@ -131,7 +184,7 @@ uint32_t lischemur_audit(lischemur_record record, const uint32_t *heap, uint64_t
 lischemur_reply lischemur_write_map(
     lischemur_record record, const uint32_t *heap, uint64_t heap_words, char *room, uint64_t room_bytes);
 
-/* The mark: high water less 108 bytes for each of so many stacklets, if it has risen since it was last read. */
+/* The mark: high water less 108 bytes for each stacklet, if it has risen since it was last read. */
 lischemur_marking lischemur_mark(lischemur_record record, uint32_t stacklets);
 
 /*
@@ -154,6 +207,17 @@ static inline uint32_t lischemur_offset(const uint32_t *heap, const void *payloa
 {
     uintptr_t offset = (uintptr_t)payload - (uintptr_t)heap;
     return offset < UINT32_MAX ? (uint32_t)offset : UINT32_MAX;
+}
+
+/* The largest size that a free chunk of this length serves, as the map shows it; 0 if it serves none. */
+static inline uint32_t lischemur_served(uint32_t chunk)
+{
+    uint32_t power = 512;
+    if (chunk >= 512)
+        return chunk - 4;
+    while (power > chunk)
+        power /= 2;
+    return power < 32 ? 0 : power - 12;
 }
 
 /* Whether payloads of a heap that starts here are 8-aligned. */
@@ -185,4 +249,5 @@ LISCHEMUR_ASSERT(sizeof(lischemur_marking) == 64, "the marking's size");
 }
 #endif
 
-#endif
+#endif /* C99 or C++11 */
+#endif /* LISCHEMUR_H */

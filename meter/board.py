@@ -5,6 +5,7 @@ program with status 1.
 """
 
 import os
+import platform
 import shutil
 import subprocess
 import sys
@@ -16,7 +17,7 @@ RUN = os.path.join(OUT, "run")
 FIRMWARE = os.path.join(HERE, "firmware")
 PROGRAM = "meter/" + os.path.basename(sys.argv[0])
 PACKAGES = {
-    "cc": "gcc libc6-dev",
+    **({"cc": "gcc libc6-dev"} if platform.machine() == "x86_64" else {"x86_64-linux-gnu-gcc": "gcc-x86-64-linux-gnu libc6-dev-amd64-cross"}),
     "arm-none-eabi-gcc": "gcc-arm-none-eabi libnewlib-arm-none-eabi",
     "qemu-system-arm": "qemu-system-arm",
 }
@@ -44,6 +45,20 @@ def run(what, *command, **options):
     if done.returncode != 0:
         fail(f"{what} ended with status {done.returncode}", *(done.stdout + done.stderr).splitlines()[-30:])
     return done.stdout + done.stderr
+
+
+def x86_64(path):
+    """The command that runs a program for x86-64: on another computer the toolchain's emulator does."""
+    if platform.machine() == "x86_64":
+        return [path]
+    tools = os.path.join(os.path.dirname(os.path.dirname(run("rt doc", "rt", "doc").strip())), "on", platform.machine(), "toolchain")
+    return [os.path.join(tools, "bin", "qemu-x86_64"), os.path.join(tools, "lib", "ld-linux-x86-64.so.2"), "--library-path", os.path.join(tools, "lib"), path]
+
+
+def proved(name):
+    """The command that runs a proved program, or nothing if it is not built."""
+    path = os.path.join(ROOT, "target", "bin", name)
+    return x86_64(path) if os.path.exists(path) else None
 
 
 def look_for_tools():

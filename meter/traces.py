@@ -5,10 +5,13 @@
     random     ten thousand lines: the first part on the largest heap of the trace program, the rest on heaps of many sizes, with
                wrong frees, sizes at the limits and lines that are no frames among them
     calls      the part on the largest heap again, as calls that any heap can serve: a slot in place of an offset
+    damaged    histories on small heaps with damage to record and words between the requests, and the audit's answer and a sum over the whole
+               state after each: those of tests/c/compare.py, in lines that the board reads
     crowd      a heap with so many used chunks, then with every other one free: how a call's time grows
     turns      every kind of call once, on heaps in three states: those of oracle/between.rs, which looks whether cache or lists serve them
 """
 
+import importlib.util
 import os
 import random
 import sys
@@ -18,6 +21,10 @@ ROOT = os.path.join(os.path.dirname(os.path.abspath(__file__)), "..")
 sys.path[:0] = [os.path.join(ROOT, "oracle"), os.path.join(ROOT, "tests", "map")]
 import model  # noqa: E402
 from compare import map_of  # noqa: E402
+
+# the places of a record and its words that damage is done to, and what begins anew, by the numbers that the board reads
+PLACES = ("memory", "prev", "next", "words", "in_use", "committed", "peak", "high", "cached", "fresh", "lent", "reset")
+DAMAGED = 20  # damaged histories, of about 400 requests each
 
 LINES = 10_000  # lines of the random trace
 FIRST = 6_000  # of these, on the largest heap
@@ -124,6 +131,42 @@ def random_trace():
     requests[-1] = None
     wanted[-1] = model.Answer(model.NO_FRAME).line()
     return b"".join(frames), requests, wanted
+
+
+def state_line(heap):
+    """The line on a state, as firmware/trace.c writes it."""
+    r, total = heap.record, 2166136261
+    numbers = [n for pair in zip(r.prev, r.next) for n in pair]
+    numbers += [r.words, r.in_use, r.committed, r.peak, r.high, r.cached, r.fresh, heap.lent, *heap.memory]
+    for number in numbers:
+        total = (total ^ int(number)) * 16777619 % 2**32
+    return "%02X%08X" % (model.DONE if heap.sound() else model.DAMAGED, total)
+
+
+def damage_line(name, index, number):
+    """A line that does damage on the board."""
+    return b"!%02X%04X%08X\n" % (PLACES.index(name), index, number)
+
+
+def damaged(histories=DAMAGED):
+    """Damaged histories: their lines, the lines that the model gives for them, and how many requests met damage."""
+    spec = importlib.util.spec_from_file_location("tests_c_compare", os.path.join(ROOT, "tests", "c", "compare.py"))
+    compare = importlib.util.module_from_spec(spec)
+    spec.loader.exec_module(compare)
+    model.Heap.dump, kept = state_line, model.Heap.dump
+    lines, wanted, refused = [], [], 0
+    for seed in range(histories):
+        data, options, answers, met = compare.damaged_history(seed)
+        lines.append(damage_line("reset", 0, int(options[1])))
+        for line in data.splitlines(keepends=True):
+            if line.startswith(b"!"):
+                name, index, number = line[1:].split()
+                line = damage_line(name.decode(), int(index), int(number))
+            lines.append(line)
+        wanted += answers
+        refused += met
+    model.Heap.dump = kept
+    return b"".join(lines), wanted, refused
 
 
 def call(kind, slot, number):

@@ -1,9 +1,9 @@
 //! The benchmarks: what the audit costs, alone and in every call, as ratios of times measured side by side in one run.
 //!
-//!     bench
+//!     bench [FILE]
 //!
-//! Prints the figures, writes them into docs/BENCHMARKS.md between its two marks, and draws docs/benchmarks.svg. Status 1 if the
-//! audit misses a target by more than twice.
+//! Prints the figures; with FILE it also writes there the sections of docs/BENCHMARKS.md that `oracle/bench --record` puts in their place.
+//! Status 1 if the audit misses a target by more than twice.
 
 #[path = "compare-parts/door.rs"]
 mod door;
@@ -27,17 +27,6 @@ use states::{bring, long, Heap, Requests, Shape, WORDS};
 use std::fs;
 use std::hint::black_box;
 use std::process::exit;
-
-/// The lines of docs/BENCHMARKS.md between which the figures stand.
-const BEGIN: &str = "<!-- oracle/bench: begin -->";
-const END: &str = "<!-- oracle/bench: end -->";
-
-/// How docs/BENCHMARKS.md begins if there is none.
-const INTRODUCTION: &str = "# What it costs
-
-Figures that were measured, how, and how to measure them again. Nothing here is proved.
-
-";
 
 /// A ratio with what is said of it.
 struct Row {
@@ -183,18 +172,16 @@ fn rows(rows: &[Row]) -> String {
     rows.iter().map(line).collect()
 }
 
-/// The sections of docs/BENCHMARKS.md that this program writes.
+/// The sections of docs/BENCHMARKS.md that are measured here, below their first heading.
 fn sections(audits: &[Row], untargeted: &[Row], calls: &[Row]) -> String {
     format!(
-        "{BEGIN}
-## The audit against one walk of the tiling
-
-`oracle/bench` measures this section and the next and writes them here, with the plot. The figures are ratios of times on one computer,
+        "\
+`oracle/bench` measures this section and the next; `oracle/bench --record` also writes them here and draws the plot. The figures are ratios of times on one computer,
 both sides optimised and measured in turns in one process: the median of {REPEATS} repeats, and the least and the most. A repeat keeps
 the fastest of {SPELLS} short spells of either side. On a busy computer the audit was seen
 to take up to twice its time where a walk of 4,000 chunks hardly took longer, so there medians and spreads are higher.
 
-![The ratios, with the targets](benchmarks.svg)
+![Two panels: the audit over one walk of the same heap, with its targets, and our calls over the Rust's](benchmarks.svg)
 
 Here it is the audit alone, `lischemur_audit`, over a plain loop that goes from header to header of the same words and tests nothing. The
 heap has 16,383 words.
@@ -218,83 +205,10 @@ on the same states. Each of our calls audits the whole heap first, and the Rust'
 
 | Heap | Our call over the Rust's | Spread |
 |---|---|---|
-{}{END}
-",
+{}",
         rows(audits),
         rows(untargeted),
         rows(calls)
-    )
-}
-
-/// Put the sections where they belong in docs/BENCHMARKS.md, and leave the rest of it as it is.
-fn write_sections(text: &str) -> std::io::Result<()> {
-    let path = "docs/BENCHMARKS.md";
-    let old = fs::read_to_string(path).unwrap_or_else(|_| INTRODUCTION.to_string());
-    let (before, after) = match (old.find(BEGIN), old.find(END)) {
-        (Some(begin), Some(end)) => (
-            &old[..begin],
-            old[end + END.len()..].trim_start_matches('\n'),
-        ),
-        _ => old.split_at(old.find("## ").unwrap_or(old.len())),
-    };
-    let gap = if after.is_empty() { "" } else { "\n" };
-    fs::write(path, format!("{before}{text}{gap}{after}"))
-}
-
-/// Where a ratio stands on the plot: a logarithmic scale from 1 to 10,000.
-fn place(ratio: f64) -> f64 {
-    340.0 + 140.0 * ratio.max(1.0).log10()
-}
-
-/// A bar of the plot with its spread and its target.
-fn bar(at: usize, row: &Row) -> String {
-    let y = 46 + 26 * at;
-    let ratio = &row.ratio;
-    let (end, least, most) = (place(ratio.median), place(ratio.least), place(ratio.most));
-    let target = row.target.map_or(String::new(), |target| {
-        let x = place(target);
-        format!(
-            "<path d=\"M{x:.1} {} v22\" stroke=\"#c00\" stroke-width=\"2\"/>\n",
-            y - 2
-        )
-    });
-    format!(
-        "<text x=\"332\" y=\"{}\" text-anchor=\"end\">{}</text>\n\
-         <rect x=\"340\" y=\"{y}\" width=\"{:.1}\" height=\"18\" fill=\"#79a\"/>\n\
-         <path d=\"M{least:.1} {} H{most:.1}\" stroke=\"#000\"/>\n\
-         <text x=\"{:.1}\" y=\"{}\">{:.1}</text>\n{target}",
-        y + 13,
-        row.name,
-        end - 340.0,
-        y + 9,
-        most.max(row.target.map_or(0.0, place)) + 6.0,
-        y + 13,
-        ratio.median
-    )
-}
-
-/// The plot.
-fn plot(rows: &[&Row]) -> String {
-    let height = 46 + 26 * rows.len();
-    let bars: String = rows
-        .iter()
-        .enumerate()
-        .map(|(at, row)| bar(at, row))
-        .collect();
-    let scale: String = [1.0, 10.0, 100.0, 1000.0, 10_000.0]
-        .map(|mark| {
-            let x = place(mark);
-            format!(
-                "<path d=\"M{x} 40 V{height}\" stroke=\"#ddd\"/>\n<text x=\"{x}\" y=\"34\" text-anchor=\"middle\">{mark}</text>\n"
-            )
-        })
-        .concat();
-    format!(
-        "<svg xmlns=\"http://www.w3.org/2000/svg\" width=\"960\" height=\"{}\" font-family=\"sans-serif\" font-size=\"12\">\n\
-         <rect width=\"100%\" height=\"100%\" fill=\"#fff\"/>\n\
-         <text x=\"10\" y=\"16\">Ratios: median as a bar, least to most as a line, targets in red (logarithmic scale)</text>\n\
-         {scale}{bars}</svg>\n",
-        height + 10
     )
 }
 
@@ -349,12 +263,12 @@ fn calls() -> Vec<Row> {
     ]
 }
 
-/// Measure, write, and judge by the targets.
+/// Measure, write if that is asked, and judge by the targets.
 fn main() -> std::io::Result<()> {
     let (audits, more, calls) = (audits(), more_audits(), calls());
-    write_sections(&sections(&audits, &more, &calls))?;
-    let all: Vec<&Row> = audits.iter().chain(&more).chain(&calls).collect();
-    fs::write("docs/benchmarks.svg", plot(&all))?;
+    if let Some(file) = std::env::args_os().nth(1) {
+        fs::write(file, sections(&audits, &more, &calls))?;
+    }
     let wide = |row: &&Row| {
         row.target
             .is_some_and(|target| row.ratio.median > 2.0 * target)
@@ -368,6 +282,5 @@ fn main() -> std::io::Result<()> {
         eprintln!("bench: more than twice the target: {}", missed.join("; "));
         exit(1);
     }
-    println!("bench: docs/BENCHMARKS.md and docs/benchmarks.svg are written");
     Ok(())
 }

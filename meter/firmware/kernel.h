@@ -5,8 +5,10 @@
 #include <stddef.h>
 #include <stdint.h>
 
-/* the words of the meter's memory */
+/* the words of the meter's memory; a part with little memory gets fewer */
+#ifndef WORDS
 #define WORDS 16383u
+#endif
 
 struct answer {
     uint32_t number;   /* 0 to 6, as in the rules */
@@ -34,6 +36,12 @@ struct figures kernel_figures(void);
 /* the heap's map, written into lent bytes: the value is the number of lines, each of MAP_LINE bytes */
 #define MAP_LINE 19u
 struct answer kernel_map(char *room, uint32_t bytes);
+
+/* write a number over a field of the record, a word, or the count of words that is lent, as PLACES of meter/traces.py names them; 0 if there is
+ * no such place. The last of them begins anew: as at power-on, and the sum goes over so many words. */
+int kernel_damage(uint32_t place, uint32_t index, uint32_t number);
+/* a sum over each field of the record, the count of words lent, and the words */
+uint32_t kernel_sum(void);
 
 /* the word at an offset that was handed out */
 uint32_t *kernel_word(uint32_t offset);

@@ -74,6 +74,46 @@ struct figures kernel_figures(void)
     };
 }
 
+/* how many words the sum goes over */
+static uint32_t summed;
+
+int kernel_damage(uint32_t place, uint32_t index, uint32_t number)
+{
+    switch (place) {
+    case 0: heap[index % WORDS] = number; return 1;
+    case 1: record.prev[index % 6] = (uint16_t)number; return 1;
+    case 2: record.next[index % 6] = (uint16_t)number; return 1;
+    case 3: record.words = number; return 1;
+    case 4: record.in_use = number; return 1;
+    case 5: record.committed = number; return 1;
+    case 6: record.peak = number; return 1;
+    case 7: record.high = number; return 1;
+    case 8: record.cached = (uint16_t)number; return 1;
+    case 9: record.fresh = (uint16_t)number; return 1;
+    case 10: lent = number; return number <= WORDS;
+    case 11: kernel_reset(); summed = number; return number <= WORDS;
+    default: return 0;
+    }
+}
+
+/* the sum with one number more (FNV-1a, a word at a time) */
+static uint32_t with(uint32_t sum, uint32_t number)
+{
+    return (sum ^ number) * UINT32_C(16777619);
+}
+
+uint32_t kernel_sum(void)
+{
+    uint32_t sum = UINT32_C(2166136261);
+    for (int list = 0; list < 6; list++)
+        sum = with(with(sum, record.prev[list]), record.next[list]);
+    sum = with(with(with(sum, record.words), record.in_use), record.committed);
+    sum = with(with(with(with(with(sum, record.peak), record.high), record.cached), record.fresh), lent);
+    for (uint32_t w = 0; w < summed; w++)
+        sum = with(sum, heap[w]);
+    return sum;
+}
+
 _Static_assert(MAP_LINE == LISCHEMUR_MAP_LINE, "the bytes of a map's line");
 
 struct answer kernel_map(char *room, uint32_t bytes)

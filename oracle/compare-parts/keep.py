@@ -12,7 +12,7 @@ PATH = os.path.join(os.path.dirname(os.path.abspath(__file__)), "..", "..", "doc
 def keep(mark, heading, text):
     """Put the section there, and leave the rest of the page as it is."""
     if "--" in mark:
-        sys.exit(f"between: {mark}: a name to keep figures by cannot have two hyphens in a row")
+        sys.exit(f"{mark}: a name to keep figures by cannot have two hyphens in a row")
     begin, end = f"<!-- {mark}: begin -->", f"<!-- {mark}: end -->"
     section = f"{begin}\n## {heading}\n\n{text.strip()}\n{end}"
     with open(PATH) as file:
@@ -23,7 +23,7 @@ def keep(mark, heading, text):
         page = page.rstrip("\n") + "\n\n" + section + "\n"
     with open(PATH, "w") as file:
         file.write(page)
-    print(f"between: kept in docs/BENCHMARKS.md, {heading}", file=sys.stderr)
+    print(f"{mark.split()[0]}: kept in docs/BENCHMARKS.md, {heading}", file=sys.stderr)
 
 
 if __name__ == "__main__":

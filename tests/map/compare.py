@@ -5,6 +5,7 @@
 `chart` is run on histories, cut at many places, and its map is compared with the layout that oracle/model.py has there. `inspect` is run
 on those maps and on MAPS spoiled ones, and its answer is compared with `first_bad` below, which goes by one regular expression and by
 sums of lengths. The drawing's own reading (tools/heapmap) has to agree with both, and of every third map table, bar and picture are checked.
+The largest request that a map's sheet says is served is compared with the model's heap, for every size on random heaps.
 """
 
 import importlib.machinery
@@ -36,6 +37,7 @@ def load(path):
 
 
 heapmap = load("tools/heapmap")
+HOW = subprocess.run([ROOT / "tools/proved", "--how"], check=True, capture_output=True, text=True).stdout.split("\n")[:-1]
 
 
 def fail(what, *shown):
@@ -45,7 +47,7 @@ def fail(what, *shown):
 
 def ask(program, data):
     """What a program writes for an input."""
-    run = subprocess.run([ROOT / "target/bin" / program], input=data, capture_output=True, timeout=60)
+    run = subprocess.run([*HOW, ROOT / "target/bin" / program], input=data, capture_output=True, timeout=60)
     if run.returncode != 0:
         fail("%s ended with status %d on" % (program, run.returncode), data)
     return run.stdout
@@ -120,6 +122,71 @@ def compare_history(frames, rng, cuts):
         if place < len(lines):
             trace.line(lines[place][:-1] if lines[place].endswith(b"\n") else b"")
     return maps
+
+
+# what is served
+
+
+def check_served(heap, data):
+    """The largest request that the map's sheet says is served, and the smaller ones that it says are refused, are those of the model's heap."""
+    sizes = range(1, 4 * heap.record.words + 16)
+    serves = {s: heap.cache_serves(s) or heap.search(s)[0] is not None for s in {model.rounded(size) for size in sizes}}
+    wanted = [size for size in sizes if serves[model.rounded(size)]]
+    most, refused = heapmap.served(heapmap.read(data)[0])
+    said = [size for size in range(1, most + 1) if refused is None or not refused[0] <= size <= refused[1]]
+    if said != wanted:
+        fail("the largest request that is served, and what is refused below it", most, refused, max(wanted, default=0), data)
+    return refused is not None
+
+
+def served_history(seed):
+    """A heap after a random history of few and often large chunks: the largest free chunk is of any class, the cached one often longer."""
+    rng = random.Random(seed)
+    heap = model.Heap([0] * 601)
+    heap.make(rng.choice((5, 7, 9, 17, 33, 65, 127, 129, 257, 401, 601)))
+    for _ in range(rng.randrange(40)):
+        places = [chunk.payload for chunk in heap.chunks() if chunk.used]
+        if places and rng.random() < 0.4:
+            heap.take_back(rng.choice(places))
+        else:
+            heap.hand_out(rng.choice((rng.randrange(1, 60), rng.randrange(1, 4 * heap.record.words), rng.randrange(500, 560))))
+    return heap
+
+
+HEAPS = 1_000  # random heaps of which every request is asked
+
+
+def check_requests():
+    """What is served: on random heaps by the model, for every size; on heaps just made by the proved program. Gives how many have a gap."""
+    gaps = 0
+    for seed in range(HEAPS):
+        heap = served_history(SEED + seed)
+        gaps += check_served(heap, map_of(heap))
+    if not gaps:
+        fail("no heap refuses a smaller request than it serves, so that is not tested")
+    for words, most in ((127, 244), (129, 508), (9, 20), (7, 0), (33, 116)):
+        whole = b"10%08X%08X\n" % (0, 4 * words - 4)
+        said = ask("trace", b"00%08X\n01%08X\n" % (words, most + 1)) + (ask("trace", b"00%08X\n01%08X\n" % (words, most)) if most else b"")
+        numbers = [line[:2] for line in said.splitlines()]
+        if heapmap.served(heapmap.read(whole)[0]) != (most, None) or numbers != [b"00", b"03", b"00", b"00"][: len(numbers)]:
+            fail("the largest request on a heap of %d words just made" % words, most, said)
+    return gaps
+
+
+def check_words():
+    """How the sheet says it: the refused ones between, and where nothing is served."""
+    for data, words in (
+        (b"1000000000000001F8\n", "largest request that is served: 244 bytes"),
+        (b"100000000000000018\n", "largest request that is served: none"),
+        (b"120000000000000018\n", "largest request that is served: 20 bytes (the cached chunk)"),
+        (b"120000000000000210\n", "largest request that is served: 524 bytes (the cached chunk)"),
+        (b"120000000000000218\n", "largest request that is served: 532 bytes (the cached chunk); 1 to 12 are refused"),
+        (b"1000000000000001F8\n12000001F800000300\n", "largest request that is served: 764 bytes (the cached chunk)"),
+        (b"1000000000000001F8\n12000001F800000400\n", "largest request that is served: 1,020 bytes (the cached chunk); 245 to 500 are refused"),
+    ):
+        said = heapmap.table(heapmap.read(data)[0])[-1]
+        if said != words:
+            fail("the sheet's last line", said, words)
 
 
 # spoiled maps
@@ -253,7 +320,33 @@ def check_drawing(data, chunks):
         kinds = [heapmap.SIGNS[c.kind] for c, before in zip(chunks, [None, *chunks]) if before is None or before.kind != c.kind]
         if runs != kinds or bar[1].count("^") != len(chunks):
             fail("a chunk has no column of its own", *bar[:2])
+    else:
+        check_crowded(chunks, whole, bar)
     check_picture(chunks, whole)
+
+
+def check_crowded(chunks, whole, bar):
+    """More chunks than columns: a sign stands for what every byte of its column is, and the legend names all signs."""
+    kinds = [chunk.kind for chunk in chunks for _ in range(chunk.length // 8)]
+    pure = {("live",): "#", ("free",): "."}
+    for column, sign in enumerate(bar[0]):
+        held = kinds[whole * column // (8 * heapmap.WIDTH) : -(-whole * (column + 1) // (8 * heapmap.WIDTH))]
+        more = held.count("live") - held.count("free")  # the first and the last eight bytes may be another column's in part
+        mixed = "+" if more > 2 else ":" if more < -2 else "+:"
+        if sign not in ("o" if "cached" in held else pure.get(tuple(set(held)), mixed)):
+            fail("column %d of a crowded bar is %s" % (column, sign), held, bar[0])
+    for words in (". free", "# live", "o cached (any of a column)", "+ mixed and mostly live", ": mixed and mostly free"):
+        if words not in bar[4]:
+            fail("the legend does not say '%s'" % words, bar[4])
+
+
+def check_holes():
+    """A heap a third of which is holes, in more chunks than columns, is no bar of live signs; two thirds are told from one."""
+    for free, sign in ((16, "+"), (64, ":")):
+        row = b"10%08X%08X\n11%08X00000020\n"
+        data = b"".join(row % ((free + 32) * k, free, (free + 32) * k + free) for k in range(300))
+        if heapmap.bar(heapmap.read(data)[0])[0] != sign * heapmap.WIDTH:
+            fail("the bar of a heap of holes", heapmap.bar(heapmap.read(data)[0])[0])
 
 
 def check_picture(chunks, whole):
@@ -316,7 +409,10 @@ def main(arguments):
     count = int(arguments[0]) if arguments else 2500
     rng = random.Random(SEED)
     check_whys()
+    check_words()
+    check_holes()
     check_documents()
+    gaps = check_requests()
     maps = [data for frames, cuts in traces(rng) for data in compare_history(frames, rng, cuts)]
     good = sorted({most_chunks(), *maps} - {NO_MAP})
     for k, data in enumerate(good):
@@ -334,8 +430,9 @@ def main(arguments):
     for _ in range(count):
         accepted += compare_inspect(spoiled(rng.choice(small), rng)) is not None
     print(
-        "map: %d maps of chart equal the model's, %d different ones read; %d spoiled ones and %d extremes answered as the reader does, %d accepted"
-        % (len(maps), len(good), count, len(extremes()), accepted)
+        "map: %d maps of chart equal the model's, %d different ones read; %d spoiled ones and %d extremes answered as the reader does, %d accepted;"
+        " the largest request that is served is the model's on %d heaps, %d of them with a gap below it"
+        % (len(maps), len(good), count, len(extremes()), accepted, HEAPS, gaps)
     )
 
 

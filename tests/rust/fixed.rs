@@ -3,7 +3,8 @@
 
 use crate::checks::{figures, set_word, state, word, Checks};
 use lischemur::{
-    accepted, map_room, Heap, Memory, Offset, Record, Refusal, MAP_LINE, MOST_SIZE, MOST_WORDS,
+    accepted, map_room, served, words_for, Heap, Memory, Offset, Record, Refusal, MAP_LINE,
+    MOST_SIZE, MOST_WORDS,
 };
 use std::ptr::NonNull;
 
@@ -44,6 +45,38 @@ fn whole_run(checks: &mut Checks) {
     for (frame, line) in WHOLE_RUN {
         let got = answer_line(&mut heap, frame);
         checks.equal(format_args!("frame {frame}"), got.as_str(), line);
+    }
+}
+
+/// Dimensioning: as many words as `words_for` says serve and two fewer do not; a chunk serves what `served` says and not a byte more.
+fn dimensions(checks: &mut Checks) {
+    let mut words = vec![0u32; 5_000];
+    let handouts = |lent: &mut [u32], size: usize| {
+        let mut heap = Heap::make(lent).expect("an accepted length");
+        (0..).take_while(|_| heap.alloc(size).is_ok()).count()
+    };
+    for size in 1..1_200 {
+        for count in 1..4 {
+            let enough = words_for(count, size);
+            let (more, less) = (
+                handouts(&mut words[..enough], size),
+                handouts(&mut words[..enough - 2], size),
+            );
+            let what = format_args!("{count} of {size} bytes in {enough} words: {more}, {less}");
+            checks.equal(what, (more >= count, less < count), (true, true));
+        }
+    }
+    for length in (5..1_200).step_by(2) {
+        let size = served(4 * (length - 1));
+        let mut heap = Heap::make(&mut words[..length]).expect("an accepted length");
+        let what = format_args!("{} bytes in {length} words", size + 1);
+        checks.equal(what, heap.alloc(size + 1), Err(Refusal::NoFit));
+        let got = heap.alloc(size).is_ok();
+        checks.equal(
+            format_args!("{size} bytes in {length} words"),
+            got,
+            size > 0,
+        );
     }
 }
 
@@ -333,8 +366,9 @@ fn maps(checks: &mut Checks) {
 
 /// Run all.
 pub fn run(checks: &mut Checks) {
-    let parts: [(&str, fn(&mut Checks)); 7] = [
+    let parts: [(&str, fn(&mut Checks)); 8] = [
         ("whole run", whole_run),
+        ("dimensions", dimensions),
         ("incident", incident),
         ("entries reckoned by hand", entries),
         ("in use and committed", both_figures),

@@ -81,8 +81,9 @@ impl<'a> Heap<'a> {
         let words = u32::try_from(self.len).unwrap_or(u32::MAX);
         // SAFETY: the record is borrowed here, start and length are those of words borrowed for `'a`,
         // and the archive's function accepts any contents of both.
-        let reply =
-            unsafe { door::lischemur_make(&mut self.record, self.start.as_ptr(), self.len, words) };
+        let reply = unsafe {
+            door::lischemur_make(&mut self.record, self.start.as_ptr(), self.count(), words)
+        };
         self.answered(reply).map(|_| ())
     }
 
@@ -91,7 +92,7 @@ impl<'a> Heap<'a> {
     pub fn hand_out(&mut self, size: u32) -> Result<Offset, Refusal> {
         // SAFETY: as in `make_again`; any size is accepted.
         let reply = unsafe {
-            door::lischemur_hand_out(&mut self.record, self.start.as_ptr(), self.len, size)
+            door::lischemur_hand_out(&mut self.record, self.start.as_ptr(), self.count(), size)
         };
         self.answered(reply).map(Offset)
     }
@@ -100,7 +101,12 @@ impl<'a> Heap<'a> {
     pub fn take_back(&mut self, payload: Offset) -> Result<(), Refusal> {
         // SAFETY: as in `make_again`; any offset is accepted.
         let reply = unsafe {
-            door::lischemur_take_back(&mut self.record, self.start.as_ptr(), self.len, payload.0)
+            door::lischemur_take_back(
+                &mut self.record,
+                self.start.as_ptr(),
+                self.count(),
+                payload.0,
+            )
         };
         self.answered(reply).map(|_| ())
     }
@@ -151,7 +157,8 @@ impl<'a> Heap<'a> {
     /// large sizes, making again and the readers is `Damaged`.
     pub fn audit(&self) -> bool {
         // SAFETY: start and length are those of words borrowed for `'a`, which are only read.
-        let sound = unsafe { door::lischemur_audit(self.record, self.start.as_ptr(), self.len) };
+        let sound =
+            unsafe { door::lischemur_audit(self.record, self.start.as_ptr(), self.count()) };
         sound == 1
     }
 
@@ -179,9 +186,9 @@ impl<'a> Heap<'a> {
             door::lischemur_write_map(
                 self.record,
                 self.start.as_ptr(),
-                self.len,
+                self.count(),
                 room.as_mut_ptr(),
-                room.len(),
+                room.len() as u64,
             )
         };
         match Refusal::of_number(reply.number) {
@@ -233,6 +240,11 @@ impl<'a> Heap<'a> {
     /// What the heap keeps between calls.
     pub fn record(&self) -> &Record {
         &self.record
+    }
+
+    /// How many words are lent, as the archive takes it: in 64 bits on every processor.
+    fn count(&self) -> u64 {
+        self.len as u64
     }
 
     /// The lent words in bytes.

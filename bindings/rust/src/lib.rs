@@ -26,6 +26,8 @@
 //! - **Payloads.** The heap clears a payload, gives out a raw pointer to it, and does not read or write
 //!   it while it is live. Whoever does must know that it is; that is what `unsafe` is for there.
 //!
+//! [`words_for`] says how many words serve; [`served`], what a free chunk serves.
+//!
 //! Every call audits the whole heap first, so its time grows with the heap's length.
 //!
 //! ```text
@@ -39,14 +41,17 @@
 #![warn(missing_docs)]
 #![deny(unsafe_op_in_unsafe_fn)]
 
+/// The version, which is the C header's too. Its second number is [`LAYOUT`].
+pub const VERSION: &str = env!("CARGO_PKG_VERSION");
+
 mod door;
 mod heap;
 mod memory;
 mod refusal;
 
-pub use door::Record;
+pub use door::{Record, LAYOUT};
 pub use heap::{map_room, Heap, Offset, MAP_LINE};
 #[cfg(target_has_atomic = "8")]
 pub use memory::StaticMemory;
-pub use memory::{accepted, Memory, LEAST_WORDS, MOST_WORDS};
+pub use memory::{accepted, served, words_for, Memory, LEAST_WORDS, MOST_WORDS};
 pub use refusal::{Refusal, MOST_SIZE};

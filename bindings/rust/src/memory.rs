@@ -17,6 +17,42 @@ pub const fn accepted(words: usize) -> bool {
     LEAST_WORDS <= words && words <= MOST_WORDS && words % 2 == 1
 }
 
+/// The fewest words of a just-made heap that serves `count` handouts of `size` bytes each before any is
+/// taken back.
+///
+/// A search for less than 512 bytes looks only at chunks of at least the next power of two, so that
+/// `NoFit` can come though a shorter free chunk would hold the payload: a just-made heap of 127 words is
+/// one free chunk of 504 bytes and refuses 245 bytes.
+///
+/// ```
+/// use lischemur::{words_for, Heap, Memory};
+///
+/// let mut memory = Memory::<{ words_for(20, 48) }>::new();
+/// let mut heap = Heap::make(memory.words())?;
+/// for _ in 0..20 {
+///     heap.alloc(48)?;
+/// }
+/// # Ok::<(), lischemur::Refusal>(())
+/// ```
+pub const fn words_for(count: usize, size: usize) -> usize {
+    let chunk = if size <= 12 { 16 } else { (size + 11) / 8 * 8 };
+    let serves = match chunk {
+        0..=31 => 32,
+        32..=511 => (chunk + 1).next_power_of_two(),
+        _ => chunk,
+    };
+    (count.saturating_sub(1) * chunk + serves) / 4 + 1
+}
+
+/// The largest size that a free chunk of this length serves, as the map shows it; 0 if it serves none.
+pub const fn served(chunk: usize) -> usize {
+    match chunk {
+        0..=31 => 0,
+        32..=511 => (chunk + 1).next_power_of_two() / 2 - 12,
+        _ => chunk - 4,
+    }
+}
+
 /// Zeroed words for a heap, at an address that is 4 mod 8.
 ///
 /// A length that no heap can have does not build:

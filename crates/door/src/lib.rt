@@ -5,6 +5,9 @@
 // alone, and the mark hands it back with its flag off. Each agrees with the call of crate `heap` or `map` that it stands for, and accepts
 // any record, any words, any room and any number. A bool that C reads is a number here, 1 or 0.
 //
+// The names end in the number of the layout that record, reply and marking have, so that a program with another layout does not link. The
+// header calls them by their plain names (`lischemur_make`). tests/c/layout holds the number to the layout; its --next renames.
+//
 //     reply    an answer as document 01's three numbers
 //     plain    the calls by value that the doors go to
 ghost use mathlib.Core.Path.{_≡_};
@@ -31,7 +34,11 @@ use reply::marking_of;
 
 // Makes a heap of the whole slice, which is to have `words` words. A 6 keeps the record.
 #[no_mangle]
-pub extern "C" fn lischemur_make(rec: &mut Record, heap: &mut [u32], words: u32) -> Reply
+pub extern "C" fn lischemur_make_needs_library_of_layout_3(
+    rec: &mut Record,
+    heap: &mut [u32],
+    words: u32,
+) -> Reply
     ensures { λ r. ⌜ replied r (seen (now (rec .exit)) (now (heap .exit))) ≡ makeOver (seen (now (rec .entry)) (now (heap .entry))) words ⌝ }
 {
     let out = make_over(*rec, heap, words);
@@ -41,7 +48,11 @@ pub extern "C" fn lischemur_make(rec: &mut Record, heap: &mut [u32], words: u32)
 
 // Hands out a payload of at least `size` bytes.
 #[no_mangle]
-pub extern "C" fn lischemur_hand_out(rec: &mut Record, heap: &mut [u32], size: u32) -> Reply
+pub extern "C" fn lischemur_hand_out_needs_library_of_layout_3(
+    rec: &mut Record,
+    heap: &mut [u32],
+    size: u32,
+) -> Reply
     ensures { λ r. ⌜ replied r (seen (now (rec .exit)) (now (heap .exit))) ≡ hand base 65529 1 (seen (now (rec .entry)) (now (heap .entry))) size ⌝ }
 {
     let out = hand_out_plain(*rec, heap, size);
@@ -51,7 +62,11 @@ pub extern "C" fn lischemur_hand_out(rec: &mut Record, heap: &mut [u32], size: u
 
 // Takes back the payload that begins at this offset.
 #[no_mangle]
-pub extern "C" fn lischemur_take_back(rec: &mut Record, heap: &mut [u32], payload: u32) -> Reply
+pub extern "C" fn lischemur_take_back_needs_library_of_layout_3(
+    rec: &mut Record,
+    heap: &mut [u32],
+    payload: u32,
+) -> Reply
     ensures { λ r. ⌜ replied r (seen (now (rec .exit)) (now (heap .exit))) ≡ back base 65529 1 (seen (now (rec .entry)) (now (heap .entry))) payload ⌝ }
 {
     let out = take_back_plain(*rec, heap, payload);
@@ -61,7 +76,7 @@ pub extern "C" fn lischemur_take_back(rec: &mut Record, heap: &mut [u32], payloa
 
 // Whether the record and these words are sound: 1 or 0.
 #[no_mangle]
-pub extern "C" fn lischemur_audit(rec: Record, heap: &[u32]) -> u32
+pub extern "C" fn lischemur_audit_needs_library_of_layout_3(rec: Record, heap: &[u32]) -> u32
     ensures { λ r. ⌜ r ≡ bit (soundAt (seen rec (now (heap .entry)))) ⌝ }
 {
     let sound = rec.audit(heap);
@@ -71,7 +86,11 @@ pub extern "C" fn lischemur_audit(rec: Record, heap: &[u32]) -> u32
 // Writes the heap's map at the start of the room, a line for each chunk, and replies how many: 5 if the heap is damaged, then 6 if the
 // room is too short.
 #[no_mangle]
-pub extern "C" fn lischemur_write_map(rec: Record, heap: &[u32], room: &mut [u8]) -> Reply
+pub extern "C" fn lischemur_write_map_needs_library_of_layout_3(
+    rec: Record,
+    heap: &[u32],
+    room: &mut [u8],
+) -> Reply
     ensures { λ r. ⌜ replied r (now (room .exit)) ≡ written (seen rec (now (heap .entry))) (now (room .entry)) ⌝ }
 {
     let answer = map::write_map(rec, heap, room);
@@ -80,7 +99,7 @@ pub extern "C" fn lischemur_write_map(rec: Record, heap: &[u32], room: &mut [u8]
 
 // The mark, if high water has risen, and the record with its flag off.
 #[no_mangle]
-pub extern "C" fn lischemur_mark(rec: Record, stacklets: u32) -> Marking
+pub extern "C" fn lischemur_mark_needs_library_of_layout_3(rec: Record, stacklets: u32) -> Marking
     ensures { λ r. ⌜ r ≡ markingBy (markOf rec stacklets) ⌝ }
 {
     let marked = rec.mark(stacklets);
@@ -90,7 +109,7 @@ pub extern "C" fn lischemur_mark(rec: Record, stacklets: u32) -> Marking
 
 // Bytes in use, as tasks hold them.
 #[no_mangle]
-pub extern "C" fn lischemur_in_use(rec: Record) -> u32
+pub extern "C" fn lischemur_in_use_needs_library_of_layout_3(rec: Record) -> u32
     ensures { λ r. ⌜ r ≡ rec .«in_use» ⌝ }
 {
     rec.in_use()
@@ -98,7 +117,7 @@ pub extern "C" fn lischemur_in_use(rec: Record) -> u32
 
 // Bytes committed: those in use, and those of the cached chunk.
 #[no_mangle]
-pub extern "C" fn lischemur_committed(rec: Record) -> u32
+pub extern "C" fn lischemur_committed_needs_library_of_layout_3(rec: Record) -> u32
     ensures { λ r. ⌜ r ≡ rec .committed ⌝ }
 {
     rec.committed()
@@ -106,7 +125,7 @@ pub extern "C" fn lischemur_committed(rec: Record) -> u32
 
 // The most bytes that were committed.
 #[no_mangle]
-pub extern "C" fn lischemur_peak(rec: Record) -> u32
+pub extern "C" fn lischemur_peak_needs_library_of_layout_3(rec: Record) -> u32
     ensures { λ r. ⌜ r ≡ rec .peak ⌝ }
 {
     rec.peak()
@@ -114,7 +133,7 @@ pub extern "C" fn lischemur_peak(rec: Record) -> u32
 
 // High water: the largest end of a chunk that was handed out.
 #[no_mangle]
-pub extern "C" fn lischemur_high_water(rec: Record) -> u32
+pub extern "C" fn lischemur_high_water_needs_library_of_layout_3(rec: Record) -> u32
     ensures { λ r. ⌜ r ≡ rec .high ⌝ }
 {
     rec.high_water()

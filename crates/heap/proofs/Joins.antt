@@ -23,8 +23,12 @@ use Rattle.rules.specs.Rules.{firstFit}
 use Rattle.rules.specs.Making.{State}
 use Rattle.heap.specs.declared.record.Record.{Record}
 use Rattle.heap.specs.Seen.{seen, base, withPrevs, withNexts, stored}
+use Rattle.heap.specs.Released.{freeListed}
 use Rattle.steps.specs.Chunk.{freed, leftFreeIn, rightFreeIn, clearedIn, emptiedIn, caseOf, Releasable}
+use Rattle.steps.specs.declared.merge.Merged.{Merged}
+use Rattle.steps.specs.Merged.{mergedIn, plainBy}
 use Rattle.steps.specs.Found.{walkIn}
+use Rattle.steps.proofs.Neighbours.{merged-plain}
 
 -- storing a sentinel's link, as numbers
 pub numbers-stored : (ls : List Link) (l : ℕ) (v : Link) → numbers (stored ls l v) ≡ setSentinel (numbers ls) l (v .0)
@@ -168,45 +172,46 @@ take-by r a q ws ws1 ws2 ws3 x w n z m hx ew ea em e2 eq =
     let ex : x - 6 + 6 ≡ x = omega arith in
     eq ∙ rw (e2, em) (ap (λ (s : State). returnExcess base (base .setWord s w (headerOf (portion n z) true true)) w n z) ea ∙ rw (ex, ew) refl)
 
--- RELEASING: its sums stay in range
-pub release-room : (ws : List ℕ) (x n w e f g : ℕ) → Releasable ws x n → x < 65536 → n < 2 ^ 32 → w ≡ x - 6 → e ≡ rightOf w n % 2 ^ 64 → f ≡ leftFreeIn ws w → g ≡ rightFreeIn ws e
-    → (f / 4 ≤ w) × (x + n / 4 + g / 4 < 65536)
-release-room ws x n w e f g h hx hn ew ee ef eg =
-    let pe : e ≡ rightOf (x - 6) n = right-place w n e (omega arith) hn ee ∙ ap (λ (v : ℕ). rightOf v n) ew in
-    let pf : f ≡ leftFreeIn ws (x - 6) = ef ∙ ap (leftFreeIn ws) ew in
-    let pg : g ≡ rightFreeIn ws (rightOf (x - 6) n) = eg ∙ ap (rightFreeIn ws) pe in
-    let hl = h .left in
-    let hr = h .right in
-    (omega arith, omega arith)
-
--- what is linked in the end is the rules' merged chunk, and that is the release of the chunk between its free neighbours
-merged-by : (s u : State) (w e f n g i m : ℕ) → e ≡ rightOf w n → i ≡ w - f / 4 → m ≡ f + (n + g) → u ≡ merge base (ltb 0 f) (ltb 0 g) s (i + 6) (e + 6)
-    → link base (clearLeft base (markFree base u i m) (rightOf i m)) (classOf m) (i + 6) ≡ merged base s w f n g
-unfolding merged
-merged-by s u w e f n g i m ee ei em eu = rw (eu, em, ei, ee)
-
-released-between : (r : Record) (ws : List ℕ) (w e f n g : ℕ) → e ≡ rightOf w n → f ≡ leftFreeIn ws w → g ≡ rightFreeIn ws e
-    → merged base (seen r ws) w f n g ≡ releaseChunk base (seen r ws) w n
-unfolding releaseChunk leftFree rightFree leftFreeIn rightFreeIn
-released-between r ws w e f n g ee ef eg = rw (ef, eg, ee)
-
-pub release-by : (r a q : Record) (ws ws1 ws2 ws3 ws4 : List ℕ) (x n w e f g i m l y j k : ℕ) (b d : Bool) → Releasable ws x n → n < 2 ^ 32 → x < 65536
-    → w ≡ x - 6 → e ≡ rightOf w n % 2 ^ 64 → f ≡ leftFreeIn ws w → g ≡ rightFreeIn ws e → i ≡ w - f / 4 → m ≡ f + (n + g) → l ≡ heldName links i
-    → b ≡ ltb 0 f → d ≡ ltb 0 g → y ≡ heldName links e → seen a ws1 ≡ merge base b d (seen r ws) l y
-    → ws2 ≡ freed ws1 i m → j ≡ rightOf i m % 2 ^ 64 → ws3 ≡ changed leftFreed ws2 j
-    → k ≡ classOf m → m < 2 ^ 32 → seen q ws4 ≡ link base (seen a ws3) k l → seen q ws4 ≡ releaseChunk base (seen r ws) (x - 6) n
-unfolding clearLeft markFree freed changed
-release-by r a q ws ws1 ws2 ws3 ws4 x n w e f g i m l y j k b d h hn hx ew ee ef eg ei em el eb ed ey ea e2 ej e3 ek hm eq =
-    let pe : e ≡ rightOf w n = right-place w n e (omega arith) hn ee in
-    let room : x + n / 4 < 65536 = let q = h .right in omega arith in
-    let pl : l ≡ i + 6 = held-name i l (omega arith) el in
-    let py : y ≡ e + 6 = held-name e y (let c = h .chunk in omega arith) ey in
+-- A FREE CHUNK TAGGED AND LISTED
+pub free-listed-by : (r q : Record) (ws ws1 ws2 ws3 : List ℕ) (i m j k l : ℕ) → i + 6 < 65536 → m < 2 ^ 32
+    → ws1 ≡ freed ws i m → j ≡ rightOf i m % 2 ^ 64 → ws2 ≡ changed leftFreed ws1 j → k ≡ classOf m → l ≡ heldName links i
+    → seen q ws3 ≡ link base (seen r ws2) k l → seen q ws3 ≡ freeListed (seen r ws) i m
+unfolding freeListed clearLeft markFree freed changed
+free-listed-by r q ws ws1 ws2 ws3 i m j k l hi hm e1 ej e2 ek el eq =
+    let pl : l ≡ i + 6 = held-name i l hi el in
     let pj : j ≡ rightOf i m = right-place i m j (omega arith) hm ej in
-    let off : seen a ws1 ≡ merge base (ltb 0 f) (ltb 0 g) (seen r ws) (i + 6) (e + 6) = ea ∙ rw (pl, py, eb, ed) refl in
-    let tagged : seen a ws3 ≡ clearLeft base (markFree base (seen a ws1) i m) (rightOf i m) = rw (e3, e2, pj) refl in
-    eq ∙ rw (ek, pl) (ap (λ (s : State). link base s (classOf m) (i + 6)) tagged)
-    ∙ merged-by (seen r ws) (seen a ws1) w e f n g i m pe ei em off ∙ released-between r ws w e f n g pe ef eg
-    ∙ ap (λ (v : ℕ). releaseChunk base (seen r ws) v n) ew
+    eq ∙ rw (ek, pl, e2, e1, pj) refl
+
+-- RELEASING: the merged chunk lies in the space that links can name
+pub release-room : (ws : List ℕ) (x n : ℕ) (g : Merged) → Releasable ws x n → g ≡ mergedIn ws x n
+    → (g .hdr .0 + 6 < 65536) × (6 ≤ g .link .0) × (6 ≤ g .right .0)
+release-room ws x n g h e =
+    let p = h .chunk in
+    let q = h .right in
+    rw (e ∙ merged-plain ws x n h) (omega arith, omega arith, omega arith)
+
+-- what is tagged and listed in the end is the rules' merged chunk, and that is the release of the chunk between its free neighbours
+merged-by : (s u : State) (w f n g : ℕ) → u ≡ merge base (ltb 0 f) (ltb 0 g) s (w - f / 4 + 6) (rightOf w n + 6)
+    → freeListed u (w - f / 4) (f + (n + g)) ≡ merged base s w f n g
+unfolding merged freeListed
+merged-by s u w f n g eu = rw eu
+
+released-between : (r : Record) (ws : List ℕ) (w n : ℕ)
+    → merged base (seen r ws) w (leftFreeIn ws w) n (rightFreeIn ws (rightOf w n)) ≡ releaseChunk base (seen r ws) w n
+unfolding releaseChunk leftFree rightFree leftFreeIn rightFreeIn
+released-between r ws w n = refl
+
+pub release-by : (r a q : Record) (ws ws1 ws2 : List ℕ) (x n : ℕ) (g : Merged) → Releasable ws x n → g ≡ mergedIn ws x n
+    → seen a ws1 ≡ merge base (g .«left_free») (g .«right_free») (seen r ws) (g .link .0) (g .right .0)
+    → seen q ws2 ≡ freeListed (seen a ws1) (g .hdr .0) (g .size) → seen q ws2 ≡ releaseChunk base (seen r ws) (x - 6) n
+release-by r a q ws ws1 ws2 x n g h eg ea eq =
+    let w = x - 6 in
+    let f = leftFreeIn ws w in
+    let e = rightFreeIn ws (rightOf w n) in
+    let plain : g ≡ plainBy w f n e = eg ∙ merged-plain ws x n h in
+    let off : seen a ws1 ≡ merge base (ltb 0 f) (ltb 0 e) (seen r ws) (w - f / 4 + 6) (rightOf w n + 6) = rw plain at ea in
+    let listed : seen q ws2 ≡ freeListed (seen a ws1) (w - f / 4) (f + (n + e)) = rw plain at eq in
+    listed ∙ merged-by (seen r ws) (seen a ws1) w f n e off ∙ released-between r ws w n
 
 -- SEARCHING: the rules' first fit on a record and its words
 pub first-fit-is : (sound : State → Bool) (r : Record) (ws : List ℕ) (z : ℕ)

@@ -1,4 +1,5 @@
 pub mod Seen
+pub mod Released
 pub mod Mark
 pub mod Answer
 pub mod Promises

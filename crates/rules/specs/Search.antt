@@ -10,6 +10,12 @@ pub data Found : Type 0 where
   nowhere : ℕ → Found
   lost : Found
 
+-- go on where nothing was found
+abbrev pub orElse : Found → (ℕ → Found) → Found
+orElse (at x d) f = at x d
+orElse (nowhere d) f = f d
+orElse lost f = lost
+
 -- the first of xs that has z bytes; c were compared before
 unfoldable pub find : (ℕ → ℕ) → ℕ → List ℕ → ℕ → Found
 find size z [] c = nowhere c
@@ -27,12 +33,6 @@ findWalk nx size z k (suc fuel) x c =
     let r = findWalk nx size z k fuel (nx x) (suc c) in
     let q = pick (leb z (size x)) (at x (suc c)) r in
     pick (eqb x k) (nowhere c) q
-
--- go on where nothing was found
-abbrev pub orElse : Found → (ℕ → Found) → Found
-orElse (at x d) f = at x d
-orElse (nowhere d) f = f d
-orElse lost f = lost
 
 -- f in n lists, from list k on
 unfoldable pub searchAll : (ℕ → ℕ → Found) → ℕ → ℕ → ℕ → Found

@@ -1,2 +1,4 @@
 pub mod Chunk
+pub mod Merged
 pub mod Found
+pub mod Undone

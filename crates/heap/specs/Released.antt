@@ -1,0 +1,17 @@
+-- THE PARTS OF A RELEASE, which the rules compose: a neighbour leaves its list if it is free, and the merged chunk is tagged and listed.
+use mathlib.Core.Bool.{Bool}
+use Prim.Native.Nat.{ℕ, _+_}
+use Rattle.words.specs.Choice.{pick}
+use Rattle.words.specs.Sizes.{classOf}
+use Rattle.words.specs.Tags.{rightOf}
+use Rattle.rules.specs.Steps.{unlink, link, clearLeft, markFree}
+use Rattle.rules.specs.Making.{State}
+use Rattle.heap.specs.Seen.{base}
+
+-- a node leaves its list, where the test holds
+abbrev pub unlinkIf : Bool → State → ℕ → State
+unlinkIf on s x = pick on (unlink base s x) s
+
+-- n bytes at word w become a free chunk: tags, the right neighbour's left bit cleared, and the head of their class list
+unfoldable pub freeListed : State → ℕ → ℕ → State
+freeListed s w n = link base (clearLeft base (markFree base s w n) (rightOf w n)) (classOf n) (w + 6)
