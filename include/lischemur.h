@@ -1,5 +1,5 @@
 /*
- * lischemur.h: the heap's door, for C99 and later and C++11 and later. Link libdoor.a; it needs nothing else.
+ * lischemur.h: the heap's door, for C99 and later and C++11 and later. Link libdoor.a, which has the heap and nothing else.
  *
  * A heap is a run of 32-bit words that you lend to each call, and a record beside it. Both are yours: the library keeps
  * nothing between calls. Offsets are bytes from the run's start, and a payload is named by its offset.
@@ -23,12 +23,21 @@
  *     a lock).
  *
  * A slice of Rattle is a pointer and a 64-bit count in C, on every processor. `rt staticlib door` builds the library for
- * x86-64, `meter/build` for a Cortex-M4; the assertions at the end of this file stop a compiler that lays things out otherwise.
+ * x86-64, `meter/build` for Cortex-M and 32-bit RISC-V; the assertions at the end of this file stop a compiler that lays things
+ * out otherwise.
+ *
+ * What the library calls and does not have, since every C program for the processor is linked with it (-lc -lgcc, say):
+ *   x86-64     memset
+ *   Cortex-M   __aeabi_memcpy, __aeabi_memclr4 and __aeabi_memclr8; for the map __aeabi_uldivmod; on a Cortex-M0+ also
+ *              __aeabi_lmul and __clzsi2
+ *   RISC-V     memcpy and memset; for the map __udivdi3
  *
  * Header and library belong together. What crosses the door has a layout with a number, LISCHEMUR_LAYOUT, and the library's
  * functions carry it in their names. If the linker says that lischemur_make_needs_library_of_layout_3 is undefined (the number
  * is this header's), the library is of another layout: take header and library from the same build. If it says that
- * lischemur_make is, a source was compiled with a header from before layout 2: compile it again with this one.
+ * lischemur_make is, a source was compiled with a header from before layout 2: compile it again with this one. For a
+ * microcontroller the names end in its architecture too (_for_armv7em), so that the library of one does not go into an image
+ * for another: link the one that `meter/build --cpu NAME` makes for the part.
  */
 #ifndef LISCHEMUR_H
 #define LISCHEMUR_H
@@ -61,19 +70,40 @@ extern "C" {
 #define LISCHEMUR_VERSION "0.3.0"
 #define LISCHEMUR_LAYOUT 3
 
-/* The library's name of each function, by which programs of another layout do not link. */
-#define LISCHEMUR_NAMED(name, layout) name##_needs_library_of_layout_##layout
-#define LISCHEMUR_OF(name, layout) LISCHEMUR_NAMED(name, layout)
-#define lischemur_make LISCHEMUR_OF(lischemur_make, LISCHEMUR_LAYOUT)
-#define lischemur_hand_out LISCHEMUR_OF(lischemur_hand_out, LISCHEMUR_LAYOUT)
-#define lischemur_take_back LISCHEMUR_OF(lischemur_take_back, LISCHEMUR_LAYOUT)
-#define lischemur_audit LISCHEMUR_OF(lischemur_audit, LISCHEMUR_LAYOUT)
-#define lischemur_write_map LISCHEMUR_OF(lischemur_write_map, LISCHEMUR_LAYOUT)
-#define lischemur_mark LISCHEMUR_OF(lischemur_mark, LISCHEMUR_LAYOUT)
-#define lischemur_in_use LISCHEMUR_OF(lischemur_in_use, LISCHEMUR_LAYOUT)
-#define lischemur_committed LISCHEMUR_OF(lischemur_committed, LISCHEMUR_LAYOUT)
-#define lischemur_peak LISCHEMUR_OF(lischemur_peak, LISCHEMUR_LAYOUT)
-#define lischemur_high_water LISCHEMUR_OF(lischemur_high_water, LISCHEMUR_LAYOUT)
+/* How the library's names end on a microcontroller: in the architecture that it is compiled for (meter/parts has the list). */
+#if defined(__ARM_ARCH_6M__)
+#define LISCHEMUR_PART _for_armv6m
+#elif defined(__ARM_ARCH_7M__)
+#define LISCHEMUR_PART _for_armv7m
+#elif defined(__ARM_ARCH_7EM__)
+#define LISCHEMUR_PART _for_armv7em
+#elif defined(__ARM_ARCH_8M_MAIN__)
+#define LISCHEMUR_PART _for_armv8m_main
+#elif defined(__arm__)
+#define LISCHEMUR_PART _for_other_arm
+#elif defined(__riscv) && __riscv_xlen == 32 && defined(__riscv_compressed) && defined(__riscv_div) && defined(__riscv_atomic)
+#define LISCHEMUR_PART _for_rv32imac
+#elif defined(__riscv) && __riscv_xlen == 32 && defined(__riscv_compressed) && defined(__riscv_div)
+#define LISCHEMUR_PART _for_rv32imc
+#elif defined(__riscv) && __riscv_xlen == 32
+#define LISCHEMUR_PART _for_other_rv32
+#else
+#define LISCHEMUR_PART
+#endif
+
+/* The library's name of each function, by which programs of another layout, or for another architecture, do not link. */
+#define LISCHEMUR_NAMED(name, layout, part) name##_needs_library_of_layout_##layout##part
+#define LISCHEMUR_OF(name, layout, part) LISCHEMUR_NAMED(name, layout, part)
+#define lischemur_make LISCHEMUR_OF(lischemur_make, LISCHEMUR_LAYOUT, LISCHEMUR_PART)
+#define lischemur_hand_out LISCHEMUR_OF(lischemur_hand_out, LISCHEMUR_LAYOUT, LISCHEMUR_PART)
+#define lischemur_take_back LISCHEMUR_OF(lischemur_take_back, LISCHEMUR_LAYOUT, LISCHEMUR_PART)
+#define lischemur_audit LISCHEMUR_OF(lischemur_audit, LISCHEMUR_LAYOUT, LISCHEMUR_PART)
+#define lischemur_write_map LISCHEMUR_OF(lischemur_write_map, LISCHEMUR_LAYOUT, LISCHEMUR_PART)
+#define lischemur_mark LISCHEMUR_OF(lischemur_mark, LISCHEMUR_LAYOUT, LISCHEMUR_PART)
+#define lischemur_in_use LISCHEMUR_OF(lischemur_in_use, LISCHEMUR_LAYOUT, LISCHEMUR_PART)
+#define lischemur_committed LISCHEMUR_OF(lischemur_committed, LISCHEMUR_LAYOUT, LISCHEMUR_PART)
+#define lischemur_peak LISCHEMUR_OF(lischemur_peak, LISCHEMUR_LAYOUT, LISCHEMUR_PART)
+#define lischemur_high_water LISCHEMUR_OF(lischemur_high_water, LISCHEMUR_LAYOUT, LISCHEMUR_PART)
 
 /* The limits: a heap has an odd count of words, and a size above the largest is refused. */
 #define LISCHEMUR_LEAST_WORDS UINT32_C(5)

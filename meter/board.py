@@ -1,6 +1,6 @@
-"""Images for the emulated board: compiling them, running them, counting their instructions. For meter/test and meter/between.
+"""Images for the emulated boards: compiling them, running them, counting their instructions. For meter/test and meter/between.
 
-The board reads and writes files in target/meter/run. Where a program is missing, `look_for_tools` says how to get it. What fails stops the
+A board reads and writes files in target/meter/run. Where a program is missing, `look_for_tools` says how to get it. What fails stops the
 program with status 1.
 """
 
@@ -16,18 +16,66 @@ OUT = os.path.join(ROOT, "target", "meter")
 RUN = os.path.join(OUT, "run")
 FIRMWARE = os.path.join(HERE, "firmware")
 PROGRAM = "meter/" + os.path.basename(sys.argv[0])
+COMMON = ["-std=gnu11", "-O2", "-Wall", "-Wextra", "-Werror"]
+
+# The packages of Debian that have a program.
 PACKAGES = {
-    **({"cc": "gcc libc6-dev"} if platform.machine() == "x86_64" else {"x86_64-linux-gnu-gcc": "gcc-x86-64-linux-gnu libc6-dev-amd64-cross"}),
+    "cc": "gcc libc6-dev",
     "arm-none-eabi-gcc": "gcc-arm-none-eabi libnewlib-arm-none-eabi",
     "qemu-system-arm": "qemu-system-arm",
+    "riscv64-unknown-elf-gcc": "gcc-riscv64-unknown-elf picolibc-riscv64-unknown-elf",
+    "qemu-system-riscv32": "qemu-system-misc",
 }
-COMMON = ["-std=gnu11", "-O2", "-Wall", "-Wextra", "-Werror"]
-COMPILER = "arm-none-eabi-gcc -mcpu=cortex-m4 -mthumb -mfloat-abi=soft -ffunction-sections -fdata-sections".split() + COMMON
-LINKER = ["-nostartfiles", "-Wl,--gc-sections", "-Wl,--no-warn-execstack", "-T" + os.path.join(FIRMWARE, "board.ld")]
-EMULATOR = "qemu-system-arm -M mps2-an386 -nographic -monitor none -serial none".split() + [
-    "-semihosting-config",
-    "enable=on,target=native",
-]
+
+# The boards: where code and data lie, how long they are, and the words, the frames and the answers that an image has room for if not the usual.
+MEGABYTE = 1 << 20
+BOARDS = {
+    "microbit": (0, 256 << 10, 0x20000000, 16 << 10, ["-DWORDS=1023u", "-DFRAMES=4096", "-DANSWERS=4096"]),
+    "mps2-an385": (0, MEGABYTE, 0x20000000, MEGABYTE, []),
+    "mps2-an386": (0, MEGABYTE, 0x20000000, MEGABYTE, []),
+    "mps2-an500": (0, MEGABYTE, 0x20000000, MEGABYTE, []),
+    "mps2-an505": (0x10000000, MEGABYTE, 0x38000000, MEGABYTE, []),
+    "virt": (0x80000000, MEGABYTE, 0x80100000, MEGABYTE, []),
+}
+
+
+class Part:
+    """A line of meter/parts: a processor and a float ABI, its library, its compiler and its board."""
+
+    def __init__(self, line):
+        self.cpu, self.float, self.names, self.rust, self.target, flags, self.board = line.split()
+        self.flags = flags.split(",")
+        self.name = f"{self.cpu}-{self.float}"
+        self.folder = os.path.join(OUT, self.name)
+        self.library = os.path.join(self.folder, "libdoor.a")
+        self.arm = not self.cpu.startswith("rv32")
+        self.binutils = "arm-none-eabi" if self.arm else "riscv64-unknown-elf"
+        self.qemu = "qemu-system-arm" if self.arm else "qemu-system-riscv32"
+        self.tools = [self.binutils + "-gcc", self.qemu]
+        self.compiler = [self.tools[0], *self.flags, "-ffunction-sections", "-fdata-sections", *COMMON] + ([] if self.arm else ["--specs=picolibc.specs"])
+
+    def emulator(self):
+        """The command that runs an image, up to its name."""
+        return [self.qemu, "-M", self.board, "-nographic", "-monitor", "none", "-serial", "none", *([] if self.arm else ["-bios", "none"]),
+            "-semihosting-config", "enable=on,target=native"]
+
+    def memory(self):
+        """The linker's script for the part's board, and its name."""
+        code, code_length, data, data_length, _ = BOARDS[self.board]
+        path = os.path.join(RUN, self.board + ".ld")
+        with open(path, "w") as file:
+            file.write(f"MEMORY {{ CODE (rx) : ORIGIN = {code:#x}, LENGTH = {code_length:#x}\nDATA (rwx) : ORIGIN = {data:#x}, LENGTH = {data_length:#x} }}\n")
+            file.write(f'INCLUDE "{os.path.join(FIRMWARE, "board.ld")}"\n')
+        return path
+
+
+def parts():
+    """The parts of meter/parts."""
+    with open(os.path.join(HERE, "parts")) as file:
+        return [Part(line) for line in file if not line.startswith("#")]
+
+
+M4 = parts()[[part.name for part in parts()].index("cortex-m4-soft")]
 
 
 def fail(*lines):
@@ -61,23 +109,36 @@ def proved(name):
     return x86_64(path) if os.path.exists(path) else None
 
 
-def look_for_tools():
+def missing(*tools):
+    """The packages that are to be installed for programs, as one text; empty if all are here."""
+    wanted = [PACKAGES[tool] for tool in dict.fromkeys(tools) if shutil.which(tool) is None]
+    if not wanted and "arm-none-eabi-gcc" in tools and not os.path.exists(run("gcc", "arm-none-eabi-gcc", "-print-file-name=nano.specs").strip()):
+        wanted = ["libnewlib-arm-none-eabi"]
+    if not wanted and "riscv64-unknown-elf-gcc" in tools and not os.path.exists(run("gcc", "riscv64-unknown-elf-gcc", "-print-file-name=picolibc.specs").strip()):
+        wanted = ["picolibc-riscv64-unknown-elf"]
+    return " ".join(wanted)
+
+
+def look_for_tools(*others):
     """Stop if a program that is needed is missing."""
-    missing = [package for tool, package in PACKAGES.items() if shutil.which(tool) is None]
-    if not missing and not os.path.exists(run("gcc", "arm-none-eabi-gcc", "-print-file-name=nano.specs").strip()):
-        missing = ["libnewlib-arm-none-eabi"]
-    if missing:
+    packages = missing(*M4.tools, *others)
+    if packages:
         print(f"{PROGRAM}: programs are missing; this installs them:", file=sys.stderr)
-        print("    apt-get install --no-install-recommends", *missing, file=sys.stderr)
+        print("    apt-get install --no-install-recommends", packages, file=sys.stderr)
         sys.exit(1)
 
 
-def image(name, *sources, flags=(), link=(), built=OUT):
-    """Compile and link an image, with the header that meter/build left in a folder."""
+def image(name, *sources, part=M4, flags=(), link=(), built=None):
+    """Compile and link an image for a part, with the header that meter/build left in a folder, the part's own if not said."""
     path = os.path.join(OUT, name + ".elf")
-    header = "-I" + os.path.join(built, "include")
-    run(f"compiling {name}", *COMPILER, header, *flags, *LINKER, *files_of("board.c", *sources), *link, "-o", path)
+    run(f"compiling {name}", *compile_command(part, built), *flags, *files_of("files.c", "arm.c" if part.arm else "riscv.c", *sources), *link, "-o", path)
     return path
+
+
+def compile_command(part, built=None):
+    """The command that compiles and links sources for a part, up to its own flags and sources."""
+    linker = ["-nostartfiles", "-Wl,--gc-sections", "-Wl,--no-warn-execstack", "-Wl,--no-warn-rwx-segments", "-T" + part.memory()]
+    return [*part.compiler, "-I" + os.path.join(built or part.folder, "include"), *BOARDS[part.board][4], *linker]
 
 
 def clear_files():
@@ -91,9 +152,9 @@ def files_of(*sources):
     return [os.path.join(FIRMWARE, source) for source in ("text.c", *sources)]
 
 
-def emulate(path, *options):
-    """Run an image on the board; it reads and writes files in RUN."""
-    return run(os.path.basename(path), *EMULATOR, *options, "-kernel", path, cwd=RUN, timeout=100)
+def emulate(path, *options, part=M4):
+    """Run an image on its part's board; it reads and writes files in RUN."""
+    return run(os.path.basename(path), *part.emulator(), *options, "-kernel", path, cwd=RUN, timeout=100)
 
 
 def put(name, data):

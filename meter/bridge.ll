@@ -1,6 +1,6 @@
-; The bridge between the proved module and C on Arm.
+; The bridge between the proved module and C on Arm and on 32-bit RISC-V.
 ;
-; The module returns a reply of three 32-bit numbers as a 64-bit and a 32-bit one, as C on x86-64 expects. C on Arm expects the
+; The module returns a reply of three 32-bit numbers as a 64-bit and a 32-bit one, as C on x86-64 expects. C on these expects the
 ; caller to say where the reply goes. Each function here has the name and the parameters of include/lischemur.h (meter/build
 ; ends the name in the layout's number), calls the proved one (which meter/build renames to end in `.proved`) with the same
 ; arguments, and puts the numbers where they go.

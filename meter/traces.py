@@ -148,15 +148,15 @@ def damage_line(name, index, number):
     return b"!%02X%04X%08X\n" % (PLACES.index(name), index, number)
 
 
-def damaged(histories=DAMAGED):
-    """Damaged histories: their lines, the lines that the model gives for them, and how many requests met damage."""
+def damaged(histories=DAMAGED, rounds=200):
+    """Damaged histories of so many rounds: their lines, the lines that the model gives for them, and how many requests met damage."""
     spec = importlib.util.spec_from_file_location("tests_c_compare", os.path.join(ROOT, "tests", "c", "compare.py"))
     compare = importlib.util.module_from_spec(spec)
     spec.loader.exec_module(compare)
     model.Heap.dump, kept = state_line, model.Heap.dump
     lines, wanted, refused = [], [], 0
     for seed in range(histories):
-        data, options, answers, met = compare.damaged_history(seed)
+        data, options, answers, met = compare.damaged_history(seed, rounds)
         lines.append(damage_line("reset", 0, int(options[1])))
         for line in data.splitlines(keepends=True):
             if line.startswith(b"!"):

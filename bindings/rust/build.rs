@@ -1,13 +1,17 @@
 //! Says where the archive with the proved functions lies, for the target that is built for: in the folder
-//! that `LISCHEMUR_LIB` names, else in this repository's `target`, where `rt staticlib door` writes the
-//! one for x86-64 and `meter/build` those for microcontrollers. A target that has none is refused.
+//! that `LISCHEMUR_LIB` names, else in this repository's `target`, where `tools/library` puts the one for
+//! the computer it runs on and `meter/build` those for microcontrollers. A target that has none is refused.
 
 use std::env;
 use std::path::PathBuf;
 use std::process::exit;
 
-/// The target of the archive that `rt staticlib door` writes.
-const COMPUTER: &str = "x86_64-unknown-linux-gnu";
+/// The targets that `tools/library` makes the archive for, on a computer of theirs.
+const COMPUTERS: [&str; 3] = [
+    "x86_64-unknown-linux-gnu",
+    "x86_64-unknown-linux-musl",
+    "aarch64-unknown-linux-gnu",
+];
 
 /// The microcontrollers' targets: the processor and the float ABI that `meter/build` is to be told, and
 /// how the archive's names end. `meter/parts` has the whole list.
@@ -50,8 +54,8 @@ fn refuse(text: &str) -> ! {
 
 /// The folder of the repository's `target` that has a target's archive, and what makes it there.
 fn kept(target: &str) -> (String, String) {
-    if target == COMPUTER {
-        return ("staticlib".into(), "rt staticlib door".into());
+    if COMPUTERS.contains(&target) {
+        return ("library".into(), "tools/library".into());
     }
     match PARTS.iter().find(|part| part.0 == target) {
         Some((_, cpu, float, _)) => (
@@ -59,8 +63,9 @@ fn kept(target: &str) -> (String, String) {
             format!("meter/build --cpu {cpu} --float {float}"),
         ),
         None => refuse(&format!(
-            "there is no archive for {target}, only for {COMPUTER}, {}. For another target compile the proved \
+            "there is no archive for {target}, only for {}, {}. For another target compile the proved \
              module as meter/build does, and name the folder of its libdoor.a in LISCHEMUR_LIB",
+            COMPUTERS.join(", "),
             PARTS.map(|part| part.0).join(", ")
         )),
     }

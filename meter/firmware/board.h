@@ -4,6 +4,9 @@
 
 #include <stdint.h>
 
+/* one request to the emulator, as semihosting numbers them */
+int ask_emulator(int request, const void *arguments);
+
 /* write a text to the emulator's output */
 void say(const char *text);
 /* write a number in decimal, then a text */

@@ -1,4 +1,4 @@
-//! The port as Rust sees it: the functions of target/staticlib/libdoor.a, which crate `door` exports.
+//! The port as Rust sees it: the functions of target/library/libdoor.a, which crate `door` exports.
 
 use crate::door::Door;
 pub use crate::door::{Record, Reply};

@@ -124,13 +124,13 @@ def any_damage(rng, heap):
     return name, 0, changed(rng, getattr(heap.record, name), 16 if name in ("cached", "fresh") else 32)
 
 
-def damaged_history(seed):
-    """A short history on a small heap, then damage, each undone unless the pair was sound: input, options and wanted lines."""
+def damaged_history(seed, rounds=200):
+    """A short history on a small heap, then damage, each undone unless the pair was sound: input, options and wanted lines, and how many requests met damage."""
     rng = random.Random(seed)
     words = rng.randrange(9, 100, 2)
     trace = model.Trace(words=words, dump=True)
     data, wanted, live, refused = [b"00%08X\n" % words], list(trace.request(0, words)[1]), [4], 0
-    for _ in range(200):
+    for _ in range(rounds):
         damage = any_damage(rng, trace.heap) if rng.random() < 0.7 else None
         if damage:
             data.append(b"!%s %d %d\n" % (damage[0].encode(), *damage[1:]))

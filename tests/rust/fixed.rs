@@ -95,7 +95,8 @@ fn incident(checks: &mut Checks) {
         );
         checks.equal(format_args!("after it"), state(&heap, 33), before.clone());
     }
-    for size in [4_294_967_295, 4_294_967_296, 4_294_967_308, usize::MAX] {
+    let sizes: [u64; 4] = [4_294_967_295, 4_294_967_296, 4_294_967_308, u64::MAX];
+    for size in sizes.map(|size| usize::try_from(size).unwrap_or(usize::MAX)) {
         let got = heap.alloc(size);
         checks.equal(
             format_args!("asked for {size}"),

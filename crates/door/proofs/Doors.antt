@@ -16,6 +16,8 @@ use Rattle.words.specs.Links.{narrow}
 use Rattle.rules.specs.Rules.{Outcome, says}
 use Rattle.rules.specs.Making.{State, make, acceptedᵇ}
 use Rattle.rules.specs.Demands.{hand, back}
+use Rattle.rules.specs.Machine.{ask, give}
+use Rattle.rules.specs.Runs.{call}
 use Rattle.rules.specs.Sound.{Accepted}
 use Rattle.rules.proofs.Proved.{narrow-demands, narrow-making}
 use Rattle.rules.proofs.Editions.{accepted-true}
@@ -67,9 +69,10 @@ over-kept s n = go (eqb n (length (s .words))) refl (acceptedᵇ 65529 n) refl
 
 -- each of the three keeps the state it refuses
 kept : (d : Door) (s : State) → through d s .number ≢ 0 → through d s .after ≡ s
+unfolding call
 kept (making n) s h = over-kept s n h
-kept (handingOut size) s h = narrow-demands 1 .refused .0 s size h
-kept (takingBack p) s h = narrow-demands 1 .refused .1 s p h
+kept (handingOut size) s h = narrow-demands 1 .refused (ask size) s h
+kept (takingBack p) s h = narrow-demands 1 .refused (give p) s h
 
 -- a refusal changes nothing
 pub doors-refused : (d : Door) (r q : Record) (ws vs : List ℕ) (a : Reply)

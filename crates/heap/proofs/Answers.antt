@@ -31,7 +31,9 @@ use Rattle.rules.specs.Search as rule
 use Rattle.rules.specs.Rules.{Figures, Outcome, says, byteOf, nameOf, Chosen, none, one, serves, choose, listed, counted, released, firstFit, fromList, fromCache, serve, handOut, live, settled, takeBack}
 use Rattle.rules.specs.Making.{State, make, fresh}
 use Rattle.rules.specs.Demands.{hand, back}
-use Rattle.rules.specs.Place.{usedWalk}
+use Rattle.rules.specs.Place.{usedAt, tile, usedWalk}
+use Rattle.rules.proofs.Place.{used-tile}
+use Rattle.rules.proofs.Follow.{walkedFit}
 use Rattle.heap.specs.declared.record.Record.{Record}
 use Rattle.heap.specs.declared.calls.Answer.{Answer}
 use Rattle.heap.specs.declared.calls.Answer.the-variants.{Done, ZeroSize, TooLarge, NoFit, NotLive, Damaged, BadLength}
@@ -43,7 +45,7 @@ use Rattle.audit.specs.Shown.{cachedOf}
 use Rattle.rules.proofs.Store.{Edition}
 use Rattle.words.proofs.Laws.Links.{narrow-lawful}
 use Rattle.rules.proofs.Editions.{edition, narrow-fits}
-use Rattle.rules.proofs.Bounds.{FoundFits, found-fitsᵇ, never-lostᵇ, nowhere-shortᵇ, CachedFits, cached-fitsᵇ, cached-heldᵇ, ReleaseFits, release-fitsᵇ, LiveFits, live-fitsᵇ, FiguresFit, figures-fitᵇ}
+use Rattle.rules.proofs.Bounds.{FoundFits, walked-fitᵇ, found-fitsᵇ, never-lostᵇ, nowhere-shortᵇ, CachedFits, cached-fitsᵇ, cached-heldᵇ, ReleaseFits, release-fitsᵇ, LiveFits, live-fitsᵇ, FiguresFit, figures-fitᵇ}
 
 -- ---- MAKING
 
@@ -214,27 +216,31 @@ figures-kept : (r a : Record) (ws ws1 : List ℕ) (w n z : ℕ) → seen a ws1 �
 figures-kept r a ws ws1 w n z e = ap (λ (s : State). s .rest) e ∙ take-rest (seen r ws) w n z
 
 module _ (r : Record) (ws : List ℕ) (z : ℕ) (h : Served (seen r ws) z) where
-  pub found-safe : (x c : ℕ) → rule.at x c ≡ firstFit base 1 soundAt (seen r ws) z → FoundFits base (seen r ws) z x c
-  found-safe x c e = found-fitsᵇ ours (seen r ws) (h .sound) soundAt z x c (sym e)
+  -- what the code's walk finds the rules' search finds
+  walks : (f : Found) → f ≡ walkedFit base (seen r ws) z → f ≡ firstFit base 1 soundAt (seen r ws) z
+  walks f e = e ∙ walked-fitᵇ ours (seen r ws) (h .sound) soundAt z
+
+  pub found-safe : (x c : ℕ) → rule.at x c ≡ walkedFit base (seen r ws) z → FoundFits base (seen r ws) z x c
+  found-safe x c e = found-fitsᵇ ours (seen r ws) (h .sound) soundAt z x c (sym (walks (rule.at x c) e))
 
   pub figures-safe : FiguresFit base (seen r ws) 65529
   figures-safe = figures-fitᵇ ours (seen r ws) (h .sound)
 
-  pub listed-lost : lost ≡ firstFit base 1 soundAt (seen r ws) z → outcome Damaged (seen r ws) ≡ fromList base 1 soundAt (seen r ws) z (firstFit base 1 soundAt (seen r ws) z)
-  listed-lost e = absurd (never-lostᵇ ours (seen r ws) (h .sound) soundAt z (sym e))
+  pub listed-lost : lost ≡ walkedFit base (seen r ws) z → outcome Damaged (seen r ws) ≡ fromList base 1 soundAt (seen r ws) z (firstFit base 1 soundAt (seen r ws) z)
+  listed-lost e = absurd (never-lostᵇ ours (seen r ws) (h .sound) soundAt z (sym (walks lost e)))
 
-  pub nowhere-safe : (c : ℕ) → nowhere c ≡ firstFit base 1 soundAt (seen r ws) z → c < 65536
+  pub nowhere-safe : (c : ℕ) → nowhere c ≡ walkedFit base (seen r ws) z → c < 65536
   nowhere-safe c e =
-      let q = nowhere-shortᵇ ours (seen r ws) (h .sound) soundAt z c (sym e) in
+      let q = nowhere-shortᵇ ours (seen r ws) (h .sound) soundAt z c (sym (walks (nowhere c) e)) in
       let f = figures-safe .accepted in
       omega arith
 
-  pub listed-nowhere : (c d : ℕ) → d ≡ c → nowhere c ≡ firstFit base 1 soundAt (seen r ws) z → outcome (NoFit d) (seen r ws) ≡ fromList base 1 soundAt (seen r ws) z (firstFit base 1 soundAt (seen r ws) z)
+  pub listed-nowhere : (c d : ℕ) → d ≡ c → nowhere c ≡ walkedFit base (seen r ws) z → outcome (NoFit d) (seen r ws) ≡ fromList base 1 soundAt (seen r ws) z (firstFit base 1 soundAt (seen r ws) z)
   unfolding fromList
-  listed-nowhere c d ed e = subst (λ (f : Found). outcome (NoFit d) (seen r ws) ≡ fromList base 1 soundAt (seen r ws) z f) e (rw ed refl)
+  listed-nowhere c d ed e = subst (λ (f : Found). outcome (NoFit d) (seen r ws) ≡ fromList base 1 soundAt (seen r ws) z f) (walks (nowhere c) e) (rw ed refl)
 
   -- TAKEN FROM A LIST: the bounds that the steps ask for
-  pub take-safe : (x c i n : ℕ) → rule.at x c ≡ firstFit base 1 soundAt (seen r ws) z → i ≡ x - 6 → n ≡ lengthOf (at ws i) → (6 ≤ x) × (x + n / 4 < 65536) × (c < 65536)
+  pub take-safe : (x c i n : ℕ) → rule.at x c ≡ walkedFit base (seen r ws) z → i ≡ x - 6 → n ≡ lengthOf (at ws i) → (6 ≤ x) × (x + n / 4 < 65536) × (c < 65536)
   take-safe x c i n e ei en =
       let q = found-safe x c e in
       let f = figures-safe .accepted in
@@ -257,7 +263,7 @@ module _ (r : Record) (ws : List ℕ) (z : ℕ) (h : Served (seen r ws) z) where
       go false q = ap (λ (v : ℕ). v % 8) (e ∙ ap (λ (t : Bool). pick t z n) q) ∙ n8
 
   -- both sums stay in range
-  pub count-safe : (a : Record) (ws1 : List ℕ) (x c i n m : ℕ) → rule.at x c ≡ firstFit base 1 soundAt (seen r ws) z → i ≡ x - 6 → n ≡ lengthOf (at ws i) → m ≡ portion n z
+  pub count-safe : (a : Record) (ws1 : List ℕ) (x c i n m : ℕ) → rule.at x c ≡ walkedFit base (seen r ws) z → i ≡ x - 6 → n ≡ lengthOf (at ws i) → m ≡ portion n z
       → seen a ws1 ≡ takeChunk base (seen r ws) (x - 6) n z → (a .«in_use» + m < 2 ^ 32) × (a .committed + m < 2 ^ 32)
   count-safe a ws1 x c i n m ef ei en em ea =
       let q = found-safe x c ef .room in
@@ -270,7 +276,7 @@ module _ (r : Record) (ws : List ℕ) (z : ℕ) (h : Served (seen r ws) z) where
       let w : a .committed ≡ r .committed = ap (λ (g : Figures). g .committed) kept in
       (omega arith, omega arith)
 
-  pub listed-hit : (a q : Record) (ws1 ws2 : List ℕ) (x c i n m j e d : ℕ) (p : ByteOffset) → rule.at x c ≡ firstFit base 1 soundAt (seen r ws) z → i ≡ x - 6 → n ≡ lengthOf (at ws i) → m ≡ portion n z
+  pub listed-hit : (a q : Record) (ws1 ws2 : List ℕ) (x c i n m j e d : ℕ) (p : ByteOffset) → rule.at x c ≡ walkedFit base (seen r ws) z → i ≡ x - 6 → n ≡ lengthOf (at ws i) → m ≡ portion n z
       → seen a ws1 ≡ takeChunk base (seen r ws) (x - 6) n z → ws2 ≡ emptiedIn ws1 i m → j ≡ rightOf i m % 2 ^ 64 → e ≡ heldName offsets j → q ≡ countedIn a m e → p .0 ≡ heldName payloads i → d ≡ c
       → outcome (Done p d) (seen q ws2) ≡ fromList base 1 soundAt (seen r ws) z (firstFit base 1 soundAt (seen r ws) z)
   unfolding fromList
@@ -291,7 +297,7 @@ module _ (r : Record) (ws : List ℕ) (z : ℕ) (h : Served (seen r ws) z) where
       let empty : seen q ws2 ≡ emptied base (base .setRest (takeChunk base (seen r ws) (x - 6) n z) (counted (figuresOf r) m (byteOf x + m))) (x - 6) m =
       ap (λ (vs : List ℕ). seen q vs) ec ∙ emptied-seen q ws1 i m ∙ ap (λ (s : State). emptied base s i m) state
       ∙ ap (λ (k : ℕ). emptied base (base .setRest (takeChunk base (seen r ws) (x - 6) n z) (counted (figuresOf r) m (byteOf x + m))) k m) ei in
-      subst (λ (k : Found). outcome (Done p d) (seen q ws2) ≡ fromList base 1 soundAt (seen r ws) z k) ef (rw (empty, pay, ed, em, v) refl)
+      subst (λ (k : Found). outcome (Done p d) (seen q ws2) ≡ fromList base 1 soundAt (seen r ws) z k) (walks (rule.at x c) ef) (rw (empty, pay, ed, em, v) refl)
 
 -- ---- WHAT IS LIVE
 
@@ -314,9 +320,12 @@ module _ (r : Record) (ws : List ℕ) (p : ℕ) where
       d′ : (p - 4) / 4 + 6 ≡ r .cached .0 → ⊥
       d′ q = d (q ∙ sym el)
 
+      there : v ≡ usedAt (tile (at ws) (length ws) 0) (p - 4)
+      there = ev ∙ used-tile (at ws) (length ws) 0 (p - 4)
+
       go : Dec (r .cached .0 ≡ 0) → v ≡ live base 1 soundAt (seen r ws) p
-      go (yes z) = rw (le-leb _ _ h, eq-eqb _ _ z) ev
-      go (no n) = rw (le-leb _ _ h, ne-eqb _ _ n, ne-eqb _ _ d′) ev
+      go (yes z) = rw (le-leb _ _ h, eq-eqb _ _ z) there
+      go (no n) = rw (le-leb _ _ h, ne-eqb _ _ n, ne-eqb _ _ d′) there
 
 -- ---- TAKEN BACK
 

@@ -4,7 +4,7 @@
 --     live-made, live-handed-out, live-taken-back     long enough, new, and every other payload stays live with its length
 --     live-place, live-apart     no payload leaves the heap, no two overlap
 --     served-exactly, three-exactly, five-exactly, taken-exactly, four-exactly, six-exactly     each answer exactly when, whatever record and words
---     answers-possible, answers-returned, few-compared     the numbers there are, what comes with them, at most one compared below 512; so too
+--     answers-possible, answers-returned, freed-returned, few-compared     the numbers there are, what comes with them, at most one compared below 512; so too
 --     one-step, run-steps     layout, six orders and figures after a call, and after any run, are those of the rules without memory
 --     figures-made, figures-handed-out, figures-taken-back     in use, committed, peak, high water and flag after each call
 --     making-writes-only     making changes words 0, 1, n - 2 and n - 1 and no other
@@ -29,16 +29,15 @@ use Rattle.rules.specs.Chunks.{Chunk, busy, total}
 use Rattle.rules.specs.Orders.{freeHead, freeLast}
 use Rattle.rules.specs.Rules.{Figures, Outcome, byteOf, nameOf}
 use Rattle.rules.specs.Making.{State}
-use Rattle.rules.specs.Machine.{Model, Request, sizeM, answerOf, callM, madeM}
+use Rattle.rules.specs.Machine.{Model, Request, ask, sizeM, answerOf, callM, madeM, stepsM}
 use Rattle.rules.specs.Machine as rule
 use Rattle.rules.specs.Sound.{Accepted, Shows}
-use Rattle.rules.specs.Demands.{NoFit}
-use Rattle.rules.specs.TwoRuns.{Event, requests, steps}
-use Rattle.rules.specs.Runs.{machine}
-use Rattle.rules.specs.Claims.{Demands, Iff, Allowable}
+use Rattle.rules.specs.Demands.{NoFit, Holds}
+use Rattle.rules.specs.TwoRuns.{Event, requests}
+use Rattle.rules.specs.Claims.{Demands, Iff, Allowable, numbersOf}
 use Rattle.rules.specs.Lives.{liveAt, NewPayload, GonePayload, Lives}
 use Rattle.rules.specs.Promises.{CountedUp, HeldOnly, Promises}
-use Rattle.rules.specs.Frame.{NoLink, Outside, Holds}
+use Rattle.rules.specs.Frame.{NoLink, Outside}
 use Rattle.rules.specs.Edges.{lengthSeen, liveSeen, Edge}
 use Rattle.rules.proofs.Proved.{narrow-demands, narrow-edition}
 use Rattle.rules.proofs.Runs.{write-shows}
@@ -50,10 +49,10 @@ use Rattle.rules.proofs.Edges.{narrow-edges}
 use Rattle.heap.specs.declared.record.Record.{Record}
 use Rattle.heap.specs.declared.calls.Out.{Out}
 use Rattle.heap.specs.Seen.{seen, base, figuresOf}
-use Rattle.heap.specs.Answer.{number, value, compared}
-use Rattle.heap.specs.Promises.{Makes, HandsOut, TakesBack, Calls, said, LiveIn, Run}
-use Rattle.heap.proofs.Histories.{after-call, answer-call, history}
-use Rattle.heap.proofs.Demands.{ShowsIn, SoundIn, demand-2-made-sound}
+use Rattle.heap.specs.Answer.{said, number, value, compared}
+use Rattle.heap.specs.Promises.{Makes, HandsOut, TakesBack, Calls, LiveIn, FromMaking}
+use Rattle.heap.proofs.Histories.{outcome-call, after-call, answer-call}
+use Rattle.heap.proofs.Demands.{ShowsIn, SoundIn, demand-2-made-sound, run-shown}
 
 -- the length of the live chunk whose payload begins at offset p; 0 where none does
 abbrev pub liveIn : Record → List ℕ → ℕ → ℕ
@@ -142,19 +141,14 @@ UnfitIn r ws z = (m : Model) × ShowsIn r ws m × NoFit m z
 module _ (r : Record) (ws vs : List ℕ) (n : ℕ) (o : Out) where
   -- a handout is done exactly for an allowable size, on a sound heap where something fits
   pub served-exactly : HandsOut r ws n o vs
-      → Iff (number (o .answer) ≡ 0) (Allowable n × SoundIn r ws × (UnfitIn r ws (roundedOf n) → ⊥))
+      → Iff (number (o .answer) ≡ 0) (Allowable (ask n) × SoundIn r ws × (UnfitIn r ws (roundedOf n) → ⊥))
   served-exactly e =
-      subst (λ (x : Outcome State). Iff (x .number ≡ 0) (Allowable n × SoundIn r ws × (UnfitIn r ws (roundedOf n) → ⊥))) (sym e) (told .served (seen r ws) n)
+      subst (λ (x : Outcome State). Iff (x .number ≡ 0) (Allowable (ask n) × SoundIn r ws × (UnfitIn r ws (roundedOf n) → ⊥))) (sym e) (told .served (seen r ws) n)
 
   -- 3 exactly for an allowable size, on a sound heap (one that shows a model) where nothing fits
   pub three-exactly : HandsOut r ws n o vs
-      → Iff (number (o .answer) ≡ 3) (Allowable n × UnfitIn r ws (roundedOf n))
-  three-exactly e = subst (λ (x : Outcome State). Iff (x .number ≡ 3) (Allowable n × UnfitIn r ws (roundedOf n))) (sym e) (told .three (seen r ws) n)
-
-  -- 5 exactly for an allowable size on a heap that is not sound
-  pub five-exactly : HandsOut r ws n o vs
-      → Iff (number (o .answer) ≡ 5) (Allowable n × (SoundIn r ws → ⊥))
-  five-exactly e = subst (λ (x : Outcome State). Iff (x .number ≡ 5) (Allowable n × (SoundIn r ws → ⊥))) (sym e) (told .five (seen r ws) n)
+      → Iff (number (o .answer) ≡ 3) (Allowable (ask n) × UnfitIn r ws (roundedOf n))
+  three-exactly e = subst (λ (x : Outcome State). Iff (x .number ≡ 3) (Allowable (ask n) × UnfitIn r ws (roundedOf n))) (sym e) (told .three (seen r ws) n)
 
   -- a free is done exactly on a sound heap with a live payload there
   pub taken-exactly : TakesBack r ws n o vs
@@ -166,27 +160,40 @@ module _ (r : Record) (ws vs : List ℕ) (n : ℕ) (o : Out) where
       → Iff (number (o .answer) ≡ 4) (SoundIn r ws × (liveIn r ws n ≡ 0))
   four-exactly e = subst (λ (x : Outcome State). Iff (x .number ≡ 4) (SoundIn r ws × (liveIn r ws n ≡ 0))) (sym e) (told .four (seen r ws) n)
 
-  -- the numbers there are
-  pub answers-possible : (HandsOut r ws n o vs → Mem (number (o .answer)) (0 ∷ 1 ∷ 2 ∷ 3 ∷ 5 ∷ []))
-      × (TakesBack r ws n o vs → Mem (number (o .answer)) (0 ∷ 4 ∷ 5 ∷ []))
-  answers-possible = (
-    λ e. subst (λ (x : Outcome State). Mem (x .number) (0 ∷ 1 ∷ 2 ∷ 3 ∷ 5 ∷ [])) (sym e) (ours .numbers .0 (seen r ws) n),
-    λ e. subst (λ (x : Outcome State). Mem (x .number) (0 ∷ 4 ∷ 5 ∷ [])) (sym e) (ours .numbers .1 (seen r ws) n),
-  )
-
-  -- what comes with them: with a refusal the value 0, and 0 compared but for no fit; with taking back always both 0
-  pub answers-returned : (HandsOut r ws n o vs → number (o .answer) ≢ 0 → (value (o .answer) ≡ 0) × (number (o .answer) ≢ 3 → compared (o .answer) ≡ 0))
-      × (TakesBack r ws n o vs → (value (o .answer) ≡ 0) × (compared (o .answer) ≡ 0))
-  answers-returned = (
-    λ e. subst (λ (x : Outcome State). x .number ≢ 0 → (x .value ≡ 0) × (x .number ≢ 3 → x .compared ≡ 0)) (sym e) (ours .returned .0 (seen r ws) n),
-    λ e. subst (λ (x : Outcome State). (x .value ≡ 0) × (x .compared ≡ 0)) (sym e) (ours .returned .1 (seen r ws) n),
-  )
-
   -- below 512 at most one free chunk is compared
   pub few-compared : HandsOut r ws n o vs
       → roundedOf n < 512
       → compared (o .answer) ≤ 1
   few-compared e h = subst (λ (x : Outcome State). x .compared ≤ 1) (sym e) (told .few (seen r ws) n h)
+
+-- 5 exactly for an allowable request to a heap that is not sound
+pub five-exactly : (r : Record) (ws vs : List ℕ) (k : Request) (o : Out)
+    → Calls k r ws o vs
+    → Iff (number (o .answer) ≡ 5) (Allowable k × (SoundIn r ws → ⊥))
+five-exactly r ws vs k o e =
+    subst (λ (x : Outcome State). Iff (x .number ≡ 5) (Allowable k × (SoundIn r ws → ⊥))) (sym (outcome-call r ws vs k o e)) (told .five k (seen r ws))
+
+-- the numbers there are
+pub answers-possible : (r : Record) (ws vs : List ℕ) (k : Request) (o : Out)
+    → Calls k r ws o vs
+    → Mem (number (o .answer)) (numbersOf k)
+answers-possible r ws vs k o e =
+    subst (λ (x : Outcome State). Mem (x .number) (numbersOf k)) (sym (outcome-call r ws vs k o e)) (ours .numbers k (seen r ws))
+
+-- what comes with a refusal: the value 0, and 0 compared but for no fit
+pub answers-returned : (r : Record) (ws vs : List ℕ) (k : Request) (o : Out)
+    → Calls k r ws o vs
+    → number (o .answer) ≢ 0
+    → (value (o .answer) ≡ 0) × (number (o .answer) ≢ 3 → compared (o .answer) ≡ 0)
+answers-returned r ws vs k o e =
+    subst (λ (x : Outcome State). x .number ≢ 0 → (x .value ≡ 0) × (x .number ≢ 3 → x .compared ≡ 0)) (sym (outcome-call r ws vs k o e))
+    (ours .returned .0 k (seen r ws))
+
+-- with taking back always both 0
+pub freed-returned : (r : Record) (ws vs : List ℕ) (p : ℕ) (o : Out)
+    → TakesBack r ws p o vs
+    → (value (o .answer) ≡ 0) × (compared (o .answer) ≡ 0)
+freed-returned r ws vs p o e = subst (λ (x : Outcome State). (x .value ≡ 0) × (x .compared ≡ 0)) (sym e) (ours .returned .1 (seen r ws) p)
 
 -- 6 exactly for a length that is not accepted
 pub six-exactly : (ws vs : List ℕ) (o : Out)
@@ -206,16 +213,11 @@ one-step r ws vs k o m e h =
     let w = told .step k (seen r ws) m h in
     (answer-call r ws vs k o e ∙ w .0, subst (λ (s : State). Shows base 65529 1 s (callM 1 k m .after)) (sym (after-call r ws vs k o e)) (w .1))
 
--- after any run from a made heap, whatever tasks wrote: the model of the requests alone
-pub run-steps : (ws ws₀ vs : List ℕ) (o : Out) (q : Record) (es : List (Event Request)) (bs : List rule.Answer)
-    → Makes ws o ws₀
-    → number (o .answer) ≡ 0
-    → Run (o .rec) ws₀ es bs q vs
-    → ShowsIn q vs (steps (machine 1) (requests es) (madeM (length ws)))
-run-steps ws ws₀ vs o q es bs e z x =
-    let a = history x in
-    subst (λ (s : State). Shows base 65529 1 s (steps (machine 1) (requests es) (madeM (length ws)))) (sym (a .2))
-    (told .runs es (seen (o .rec) ws₀) (madeM (length ws)) (demand-2-made-sound ws ws₀ o e z) (a .0))
+-- after any run from making on, whatever the memory held and tasks wrote: the model of the requests alone
+pub run-steps : (n : ℕ) (es : List (Event Request)) (bs : List rule.Answer) (q : Record) (vs : List ℕ)
+    → FromMaking n es bs q vs
+    → ShowsIn q vs (stepsM 1 (requests es) (madeM n))
+run-steps = run-shown
 
 -- ---- FIGURES
 

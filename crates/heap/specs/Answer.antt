@@ -6,40 +6,33 @@ use Prim.Native.Nat.{ℕ, _≤_, _<_, _%_}
 use Rattle.rules.specs.Rules.{Outcome, says, Chosen, none, one, choose}
 use Rattle.rules.specs.Steps.{lengthAt}
 use Rattle.rules.specs.Making.{State}
+use Rattle.rules.specs.Machine as rule
 use Rattle.rules.specs.Test.{soundᵇ}
 use Rattle.heap.specs.declared.calls.Answer.{Answer}
 use Rattle.heap.specs.declared.calls.Answer.the-variants.{Done, ZeroSize, TooLarge, NoFit, NotLive, Damaged, BadLength}
 use Rattle.heap.specs.Seen.{base}
 
+-- of each case its number; what is returned, the payload's offset for a handout, 0 otherwise; and how many free chunks were compared with the rounded size
+abbrev pub said : Answer → rule.Answer
+said (Done p c) = record { number = 0; value = p .0; compared = c }
+said ZeroSize = record { number = 1; value = 0; compared = 0 }
+said TooLarge = record { number = 2; value = 0; compared = 0 }
+said (NoFit c) = record { number = 3; value = 0; compared = c }
+said NotLive = record { number = 4; value = 0; compared = 0 }
+said Damaged = record { number = 5; value = 0; compared = 0 }
+said BadLength = record { number = 6; value = 0; compared = 0 }
+
+-- the three of them
 abbrev pub number : Answer → ℕ
-number (Done p c) = 0
-number ZeroSize = 1
-number TooLarge = 2
-number (NoFit c) = 3
-number NotLive = 4
-number Damaged = 5
-number BadLength = 6
+number a = said a .number
 
--- what is returned: the payload's offset for a handout, 0 otherwise
 abbrev pub value : Answer → ℕ
-value (Done p c) = p .0
-value ZeroSize = 0
-value TooLarge = 0
-value (NoFit c) = 0
-value NotLive = 0
-value Damaged = 0
-value BadLength = 0
+value a = said a .value
 
--- how many free chunks were compared with the rounded size
 abbrev pub compared : Answer → ℕ
-compared (Done p c) = c
-compared ZeroSize = 0
-compared TooLarge = 0
-compared (NoFit c) = c
-compared NotLive = 0
-compared Damaged = 0
-compared BadLength = 0
+compared a = said a .compared
 
+-- an answer beside the state after the call, as the rules' outcome
 abbrev pub outcome : Answer → State → Outcome State
 outcome a s = says (number a) (value a) (compared a) s
 

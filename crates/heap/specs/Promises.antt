@@ -3,7 +3,7 @@
 use mathlib.Core.Path.{_≡_}
 use mathlib.Core.List.{List, [], _∷_}
 use Prim.Native.Nat.{ℕ}
-use lib.ListN.{set}
+use lib.ListN.{length, set}
 use Rattle.words.specs.Links.{narrow}
 use Rattle.rules.specs.Making.{make}
 use Rattle.rules.specs.Demands.{hand, back}
@@ -12,10 +12,9 @@ use Rattle.rules.specs.Machine as rule
 use Rattle.rules.specs.TwoRuns.{Event, asks, writes}
 use Rattle.rules.specs.Runs.{Live}
 use Rattle.heap.specs.declared.record.Record.{Record}
-use Rattle.heap.specs.declared.calls.Answer.{Answer}
 use Rattle.heap.specs.declared.calls.Out.{Out}
 use Rattle.heap.specs.Seen.{seen, base}
-use Rattle.heap.specs.Answer.{number, value, compared, outcome}
+use Rattle.heap.specs.Answer.{said, number, outcome}
 
 -- making over the words ws gives o and the words vs
 abbrev pub Makes : List ℕ → Out → List ℕ → Type 0
@@ -34,10 +33,6 @@ abbrev pub Calls : Request → Record → List ℕ → Out → List ℕ → Type
 Calls (ask size) r ws o vs = HandsOut r ws size o vs
 Calls (give p) r ws o vs = TakesBack r ws p o vs
 
--- an answer's number, value and compared count
-abbrev pub said : Answer → rule.Answer
-said a = record { number = number a; value = value a; compared = compared a }
-
 -- word i lies in the payload of a chunk live at this moment: used and not cached
 abbrev pub LiveIn : Record → List ℕ → ℕ → Type 0
 LiveIn r ws i = Live base 65529 1 (seen r ws) i
@@ -50,3 +45,13 @@ pub data Run : Record → List ℕ → List (Event Request) → List rule.Answer
       → Calls k r ws o us → Run (o .rec) us es bs q vs → Run r ws (asks k ∷ es) (said (o .answer) ∷ bs) q vs
   stores : {r q : Record} {ws vs : List ℕ} {es : List (Event Request)} {bs : List rule.Answer} {i v : ℕ}
       → LiveIn r ws i → Run r (set ws i v) es bs q vs → Run r ws (writes i v ∷ es) bs q vs
+
+-- FROM MAKING ON: n words, whatever they held, are made a heap, and a run follows, with these events and answers, to q and vs
+pub record FromMaking (n : ℕ) (es : List (Event Request)) (bs : List rule.Answer) (q : Record) (vs : List ℕ) : Type 0 where
+  pub memory : List ℕ
+  pub long : length memory ≡ n
+  pub out : Out
+  pub words : List ℕ
+  pub makes : Makes memory out words
+  pub made : number (out .answer) ≡ 0
+  pub runs : Run (out .rec) words es bs q vs

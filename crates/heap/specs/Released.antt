@@ -9,7 +9,7 @@ use Rattle.rules.specs.Making.{State}
 use Rattle.heap.specs.Seen.{base}
 
 -- a node leaves its list, where the test holds
-abbrev pub unlinkIf : Bool → State → ℕ → State
+unfoldable pub unlinkIf : Bool → State → ℕ → State
 unlinkIf on s x = pick on (unlink base s x) s
 
 -- n bytes at word w become a free chunk: tags, the right neighbour's left bit cleared, and the head of their class list

@@ -2,7 +2,7 @@
 use mathlib.Core.List.{List, [], _∷_}
 use Prim.Native.Nat.{ℕ, _+_, _-_, max}
 use lib.Dec.{ltb}
-use lib.ListN.{set}
+use lib.ListN.{replicate, set}
 use Rattle.words.specs.declared.names.Link.{Link}
 use Rattle.words.specs.Choice.{pick}
 use Rattle.words.specs.Links.{narrow}
@@ -48,8 +48,7 @@ link n = record { 0 = n }
 -- the empty record, and the record of a heap of n words whose lists are empty
 abbrev pub emptyRecord : Record
 emptyRecord =
-    let zeros = link 0 ∷ link 0 ∷ link 0 ∷ link 0 ∷ link 0 ∷ link 0 ∷ [] in
-    record { prev = zeros; next = zeros; words = 0; «in_use» = 0; committed = 0; peak = 0; high = 0; cached = link 0; fresh = 0 }
+    record { prev = replicate 6 (link 0); next = replicate 6 (link 0); words = 0; «in_use» = 0; committed = 0; peak = 0; high = 0; cached = link 0; fresh = 0 }
 
 abbrev pub freshRecord : ℕ → Record
 freshRecord n =

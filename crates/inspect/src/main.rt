@@ -6,11 +6,25 @@
 // The longest heap has 65,529 words, so 262,112 bytes before the guard, and a chunk has at least 16: a map has at most 16,382 lines, and of anything
 // else the first bad line is at most the next. The lines before it have nineteen bytes each, and its own first nineteen tell that it is bad. So the
 // first 16,383 times 19 bytes tell all, and what comes after them is not read. Three words for each of 16,382 chunks are room for every map.
+ghost use mathlib.Core.Path.{_≡_};
+ghost use mathlib.Core.Bool.{true};
+ghost use Prim.Native.Nat.{_≤_, _<_};
+ghost use lib.ListN.{length};
 use map::Answer;
+
+// What was read of the input.
+pub struct Whole {
+    // how many bytes stand at the start of the text
+    pub len: usize,
+    // the text is not full and the input goes on
+    pub more: bool,
+    // a read failed
+    pub failed: bool,
+}
 
 fn main() {
     let mut text = [0u8; 311277];
-    let whole = lines::read_whole(&mut text);
+    let whole = read_whole(&mut text);
     if whole.failed {
         return;
     }
@@ -20,6 +34,37 @@ fn main() {
     let mut out = [0u8; 19];
     write_reply(answer, &mut out);
     io::write_all(1, &out);
+}
+
+// Reads until the text is full, the input ends or a read fails.
+fn read_whole(text: &mut [u8]) -> Whole
+    ensures { λ r. ⌜ r .len ≤ length (now (text .exit)) ⌝ }
+{
+    let mut w = Whole {
+        len: 0,
+        more: true,
+        failed: false,
+    };
+    while w.more {
+        w = read_on(w, text);
+    }
+    w
+}
+
+// One read, behind what was read before.
+fn read_on(before: Whole, text: &mut [u8]) -> Whole
+    requires { ⌜ before .len ≤ length (now text) ⌝ }
+    ensures { λ r. ⌜ (before .len ≤ r .len) × (r .len ≤ length (now (text .entry))) × (r .more ≡ true → before .len < r .len) ⌝ }
+{
+    let len = before.len;
+    let rest = &mut text[len..];
+    let got = libc::read(0, rest);
+    let count = io::count(got, rest);
+    Whole {
+        len: len + count,
+        more: 0 < count,
+        failed: got < 0,
+    }
 }
 
 // Writes the answer line to what reading gave.

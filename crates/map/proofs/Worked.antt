@@ -11,14 +11,14 @@ use Rattle.frame.specs.Hex.{digitOf, byteOf, digitsOf}
 use Rattle.frame.specs.Answer.{answerBytes}
 use Rattle.rules.specs.Steps.{unlink, link, setLeft, clearLeft, markFree, markUsed, oneChunk, returnExcess, takeChunk, leftFree, rightFree, merge, merged}
 use Rattle.rules.specs.Steps.{releaseChunk, emptied, cleared}
-use Rattle.rules.specs.Search.{findWalk, searchAll}
-use Rattle.rules.specs.Place.{usedAt, usedWalk}
+use Rattle.rules.specs.Search.{find, inTurn}
+use Rattle.rules.specs.Place.{usedAt, tile}
 use Rattle.rules.specs.Lists.{walk}
 use Rattle.rules.specs.Exact.{frees}
 use Rattle.rules.specs.Rules.{says, choose, listed, firstFit, fromList, fromCache, serve, handOut, live, settled, takeBack}
 use Rattle.rules.specs.Making.{State, make}
 use Rattle.rules.specs.Machine.{ask, give}
-use Rattle.rules.specs.Test.{legalᵇ, calmᵇ, tagsᵇ, segᵇ, belowᵇ, everyᵇ, slotᵇ, exactᵇ, distinctᵇ, underᵇ, cacheᵇ, figuresᵇ, showsᵇ, candidate, soundᵇ, tile}
+use Rattle.rules.specs.Test.{legalᵇ, calmᵇ, tagsᵇ, segᵇ, belowᵇ, everyᵇ, slotᵇ, exactᵇ, distinctᵇ, underᵇ, cacheᵇ, figuresᵇ, showsᵇ, candidate, soundᵇ}
 use Rattle.rules.specs.Runs.{call}
 use Rattle.rules.specs.Kind.{one}
 use Rattle.rules.specs.Table.{made, after}
@@ -50,7 +50,7 @@ pub worn-written :
     ≡ says 0 4 0 (bytes wornMap ++ replicate 4 255) ∷ says 6 0 0 (replicate 75 255) ∷ []
 unfolding written laid over rowsOf mapOf linesOf answerBytes digitsOf byteOf
     call handOut takeBack live choose listed make serve fromCache fromList firstFit settled link unlink setLeft clearLeft markFree markUsed oneChunk
-    returnExcess takeChunk emptied cleared leftFree rightFree merge merged releaseChunk setLinkAt classOf findWalk searchAll usedWalk usedAt soundᵇ showsᵇ candidate
+    returnExcess takeChunk emptied cleared leftFree rightFree merge merged releaseChunk setLinkAt classOf find inTurn usedAt soundᵇ showsᵇ candidate
     legalᵇ calmᵇ tagsᵇ segᵇ belowᵇ everyᵇ slotᵇ exactᵇ distinctᵇ underᵇ cacheᵇ figuresᵇ tile walk frees
 worn-written = refl
 

@@ -19,7 +19,8 @@ use Rattle.words.specs.Tags.{at, lengthOf, freeᵇ}
 use Rattle.audit.specs.Shown.{cachedOf}
 use Rattle.rules.specs.Chunks.{Chunk, total}
 use Rattle.rules.specs.Rules.{says, listed}
-use Rattle.rules.specs.Test.{tile, candidate}
+use Rattle.rules.specs.Place.{tile}
+use Rattle.rules.specs.Test.{candidate}
 use Rattle.rules.specs.Making.{State}
 use Rattle.rules.proofs.Decide.{sound-true, shows-candidate}
 use Rattle.heap.specs.declared.record.Record.{Record}

@@ -5,7 +5,7 @@ use lib.Dec.{leb}
 use lib.ListN.{length, drop}
 use Rattle.words.specs.Choice.{pick}
 use Rattle.rules.specs.Rules.{Outcome, says}
-use Rattle.rules.specs.Test.{tile}
+use Rattle.rules.specs.Place.{tile}
 use Rattle.rules.specs.Making.{State}
 use Rattle.heap.specs.Seen.{base}
 use Rattle.heap.specs.Answer.{soundAt}

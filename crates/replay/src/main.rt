@@ -4,170 +4,133 @@
 // cached chunk's link (0 for none), the flag; the six prev and the six next links of the sentinels; then every word of the heap. The lines of
 // the map (W-201) come after it: one for each chunk, none before a heap is made. The file `stdin` holds requests, and `stdout` the original's
 // states and their maps after each, in the same form (tests/trace/README.md): the check of this crate compares them byte by byte.
-ghost use Prim.Native.Nat.{_≤_};
-ghost use lib.ListN.{length};
-use frame::Line;
+//
+// Reading is in crate `stream`. One byte is lent to a read, so that no more than one line is answered before its state is written.
 use heap::Record;
-use lines::Input;
-use lines::Output;
 use map::Answer;
+use stream::Stream;
 use words::Link;
-
-// What goes on from line to line.
-pub struct Run {
-    // the record of the heap in use
-    pub rec: Record,
-    // where reading stands
-    pub input: Input,
-    // where writing stands
-    pub output: Output,
-    // there may be more lines
-    pub more: bool,
-}
 
 fn main() {
     let mut memory = [0u32; 16383];
-    let mut out = io::large_buffer();
-    let mut line = [0u8; 11];
-    let mut buffer = io::large_buffer();
-    let output = all_lines(&mut memory, &mut out, &mut line, &mut buffer);
-    lines::flush(output, &out);
+    let mut input = [0u8; 1];
+    // an answer line, 19 numbers of the record and 16,383 words of 9 bytes each, a line feed, and 4,095 lines of a map
+    let mut room = [0u8; 225443];
+    replay(&mut memory, &mut input, &mut room);
 }
 
-// Replays every line.
-fn all_lines(memory: &mut [u32], out: &mut [u8], line: &mut [u8], buffer: &mut [u8]) -> Output
-    requires { ⌜ 19 ≤ length (now out) ⌝ }
-{
-    let mut run = Run {
-        rec: Record::empty(),
-        input: Input::start(),
-        output: Output::start(),
-        more: true,
-    };
-    let mut turns = u64::MAX;
-    while 0 < turns && run.more {
-        turns -= 1;
-        run = one_line(run, memory, out, line, buffer);
-    }
-    run.output
-}
-
-// Reads a line and replays it, if there is one.
-fn one_line(run: Run, memory: &mut [u32], out: &mut [u8], line: &mut [u8], buffer: &mut [u8]) -> Run
-    requires { ⌜ 19 ≤ length (now out) ⌝ }
-{
-    let before = run.input;
-    let rec = run.rec;
-    let output = run.output;
-    let input = lines::next_line(before, buffer, line);
-    if input.fed {
-        let read = lines::read_kept(line, input.kept);
-        return replay(rec, input, output, memory, out, read);
-    }
-    Run {
-        rec,
-        input,
-        output,
-        more: false,
+// Reads byte by byte, and writes what there is to show after each line.
+fn replay(memory: &mut [u32], input: &mut [u8], room: &mut [u8]) {
+    let mut s = Stream::start();
+    while s.more {
+        s = stream::next(s, memory, input, room);
+        if 0 < s.filled {
+            let trace = s.trace;
+            let end = show(room, s.filled, trace.rec, memory);
+            if !write(room, end) {
+                return;
+            }
+        }
     }
 }
 
-// Takes a line's turn, and puts its answer line, the state after it and the map.
-fn replay(
-    rec: Record,
-    input: Input,
-    output: Output,
-    memory: &mut [u32],
-    out: &mut [u8],
-    line: Line,
-) -> Run
-    requires { ⌜ 19 ≤ length (now out) ⌝ }
-{
-    let reply = turn::turn(rec, memory, line);
-    let next = reply.rec;
-    let answered = lines::put_answer(output, out, reply.number, reply.value, reply.compared);
-    let shown = put_state(answered, out, next, memory);
-    let mapped = put_map(shown, out, next, memory);
-    let more = !mapped.failed;
-    Run {
-        rec: next,
-        input,
-        output: mapped,
-        more,
+// Writes the start of the room.
+fn write(room: &[u8], n: usize) -> bool {
+    if room.len() < n {
+        return false;
     }
+    io::write_all(1, &room[0..n])
 }
 
-// Puts the whole state on a line.
-fn put_state(output: Output, out: &mut [u8], rec: Record, memory: &[u32]) -> Output
-    requires { ⌜ 19 ≤ length (now out) ⌝ }
-{
-    let prevs = rec.prev;
-    let nexts = rec.next;
-    let figures = put_figures(output, out, rec);
-    let prev = put_links(figures, out, prevs);
-    let next = put_links(prev, out, nexts);
-    let words = put_words(next, out, memory, rec.words as usize);
-    lines::put_byte(words, out, 10)
-}
-
-// Puts the map of the heap in use, if there is one.
-fn put_map(output: Output, out: &mut [u8], rec: Record, memory: &[u32]) -> Output
-    requires { ⌜ 19 ≤ length (now out) ⌝ }
-{
-    let n = rec.words as usize;
-    if memory.len() < n {
-        return output;
-    }
-    // 16,383 words have at most 4,095 chunks, of nineteen bytes each
-    let mut room = [0u8; 77824];
-    let answer = map::write_map(rec, &memory[0..n], &mut room);
-    let Answer::Done(chunks) = answer else {
-        return output;
-    };
-    lines::put_lines(output, out, &room, chunks)
-}
-
-// Puts what the record holds beside its links.
-fn put_figures(output: Output, out: &mut [u8], rec: Record) -> Output
-    requires { ⌜ 19 ≤ length (now out) ⌝ }
-{
+// Puts the whole state on a line, and the map behind it. Where the room ends now, as after each put.
+fn show(room: &mut [u8], at: usize, rec: Record, memory: &[u32]) -> usize {
     let flag = rec.fresh as u32;
-    let cached = rec.cached.0 as u32;
     let figures = [
         rec.words,
         rec.in_use,
         rec.committed,
         rec.peak,
         rec.high,
-        cached,
+        wide(rec.cached.0),
         flag,
     ];
-    put_words(output, out, &figures, 7)
+    let prev = rec.prev;
+    let next = rec.next;
+    let prevs = numbers(prev);
+    let nexts = numbers(next);
+    let first = put_words(room, at, &figures, 7);
+    let second = put_words(room, first, &prevs, 6);
+    let third = put_words(room, second, &nexts, 6);
+    let fourth = put_words(room, third, memory, rec.words as usize);
+    let fifth = put_feed(room, fourth);
+    put_map(room, fifth, rec, memory)
 }
 
-// Puts six links.
-fn put_links(output: Output, out: &mut [u8], links: [Link; 6]) -> Output
-    requires { ⌜ 19 ≤ length (now out) ⌝ }
-{
-    let mut o = output;
-    let mut k: usize = 0;
-    while k < 6 {
-        let l = links[k];
-        o = lines::put_number(o, out, l.0 as u32);
-        k += 1;
-    }
-    o
+// The numbers of six links.
+fn numbers(links: [Link; 6]) -> [u32; 6] {
+    [
+        wide(links[0].0),
+        wide(links[1].0),
+        wide(links[2].0),
+        wide(links[3].0),
+        wide(links[4].0),
+        wide(links[5].0),
+    ]
 }
 
-// Puts the first n words of the memory.
-fn put_words(output: Output, out: &mut [u8], memory: &[u32], n: usize) -> Output
-    requires { ⌜ 19 ≤ length (now out) ⌝ }
-{
-    let mut o = output;
+fn wide(number: u16) -> u32 {
+    number as u32
+}
+
+// Puts the first n words, each as a space and eight digits.
+fn put_words(room: &mut [u8], at: usize, words: &[u32], n: usize) -> usize {
+    let mut end = at;
     let mut k: usize = 0;
-    while k < n && k < memory.len() {
-        o = lines::put_number(o, out, memory[k]);
+    while k < n && k < words.len() {
+        end = put_number(room, end, words[k]);
         k += 1;
     }
-    o
+    end
+}
+
+// Puts a space and a number's eight digits.
+fn put_number(room: &mut [u8], at: usize, number: u32) -> usize {
+    if room.len() < 9 {
+        return at;
+    }
+    if room.len() - 9 < at {
+        return at;
+    }
+    frame::write_field(&mut room[at + 1..at + 9], number);
+    room[at] = 32;
+    at + 9
+}
+
+// Puts a line feed.
+fn put_feed(room: &mut [u8], at: usize) -> usize {
+    if room.len() <= at {
+        return at;
+    }
+    room[at] = 10;
+    at + 1
+}
+
+// Puts the map of the heap in use, if there is one.
+fn put_map(room: &mut [u8], at: usize, rec: Record, memory: &[u32]) -> usize {
+    let n = rec.words as usize;
+    if memory.len() < n {
+        return at;
+    }
+    if room.len() < at {
+        return at;
+    }
+    let left = room.len() - at;
+    let answer = map::write_map(rec, &memory[0..n], &mut room[at..]);
+    let Answer::Done(chunks) = answer else {
+        return at;
+    };
+    if left / 19 < chunks {
+        return at;
+    }
+    at + chunks * 19
 }

@@ -40,7 +40,7 @@ use Rattle.rules.specs.Machine.{Model, sizeM, searched}
 use Rattle.rules.specs.Sound.{Accepted, Shows}
 use Rattle.rules.specs.Test.{soundᵇ}
 use Rattle.rules.proofs.Store.{Edition}
-use Rattle.rules.proofs.Follow.{L, whole, few, search-same, met-free, met-size, used-size, left-there, in-use-held, live-same, live-is, live-last}
+use Rattle.rules.proofs.Follow.{L, whole, few, walkedFit, walked-same, search-same, met-free, met-size, used-size, left-there, in-use-held, live-same, live-is, live-last}
 use Rattle.rules.proofs.LiveSums.{sum-has}
 use Rattle.rules.proofs.Decide.{sound-true}
 
@@ -305,6 +305,10 @@ module _ {S : Type 0} {op : Ops S Figures} {most places : ℕ} (E : Edition op m
   module _ (s : S) (ok : soundᵇ op most places s ≡ true) where
     pub figures-fitᵇ : FiguresFit op s most
     figures-fitᵇ = let h = sound-true E s ok in figures-fit s (h .0) (h .1)
+
+    -- the search as the code walks finds what the rules' search finds
+    pub walked-fitᵇ : (sound : S → Bool) (z : ℕ) → walkedFit op s z ≡ firstFit op places sound s z
+    walked-fitᵇ sound z = let h = sound-true E s ok in walked-same E s (h .0) (h .1) z ∙ sym (search-same E s (h .0) (h .1) sound z)
 
     pub never-lostᵇ : (sound : S → Bool) (z : ℕ) → firstFit op places sound s z ≡ lost → ⊥
     never-lostᵇ = let h = sound-true E s ok in never-lost s (h .0) (h .1)

@@ -28,10 +28,10 @@ use Rattle.rules.specs.Rules.{serve, handOut, settled, takeBack}
 use Rattle.rules.specs.Machine.{Model, ask, give, sizeM, searched, searchM, liveM}
 use Rattle.rules.specs.Sound.{Shows, Sound}
 use Rattle.rules.specs.Test.{soundᵇ}
-use Rattle.rules.specs.Demands.{hand, back}
-use Rattle.rules.specs.Frame.{NoLink, Outside, Holds, Frame}
+use Rattle.rules.specs.Demands.{Holds, hand, back}
+use Rattle.rules.specs.Frame.{NoLink, Outside, Frame}
 use Rattle.rules.specs.Lives.{liveAt}
-use Rattle.rules.specs.Runs.{LiveWord, Live, call}
+use Rattle.rules.specs.Runs.{Live, call}
 use Rattle.rules.proofs.Bytes.{releaseStep, take-words, release-words}
 use Rattle.rules.proofs.Store.{Edition}
 use Rattle.rules.proofs.Tags.{calm-left}
@@ -40,7 +40,7 @@ use Rattle.rules.proofs.Calls.{Whole, total-8}
 use Rattle.rules.proofs.Emptying.{emptied-out}
 use Rattle.rules.proofs.Keep.{Off, Out, take-keeps, release-keeps}
 use Rattle.rules.proofs.Search.{find-fits, Fits}
-use Rattle.rules.proofs.Place.{UsedAt, free-at, len-at, used-at}
+use Rattle.rules.proofs.Place.{free-at, len-at, used-at}
 use Rattle.rules.proofs.Named.{size-at, byte-at}
 use Rattle.rules.proofs.LayoutFacts.{used-len}
 use Rattle.rules.proofs.Follow.{whole, L, search-same, met-free, used-size, left-there, live-same, live-is, live-len, snoc-used, r16, r8}
@@ -217,27 +217,6 @@ module _ {S : Type 0} {op : Ops S Figures} {most places : ℕ} (E : Edition op m
 
 -- ---- WHAT TASKS KEEP
 
--- a word of a live payload
-live-word : (m : Model) (p i n : ℕ) (u : UsedAt (m .cs) (p - 4) n) → Legal (m .cs) → (Mem (nameOf (p - 4)) (m .figs .cached) → ⊥) → 4 ≤ p → Holds p n i
-    → LiveWord m i
-live-word m p i n u l c p4 w =
-    let lg = subst Legal (u .is) l in
-    let t8 = total-8 (u .pre) (legal-front (u .pre) (busy n ∷ u .post) lg) in
-    let n8 : n % 8 ≡ 0 = (legal-back (u .pre) (busy n ∷ u .post) lg) .1 in
-    let b = u .byte in
-    let lo = w .0 in
-    let hi = w .1 in
-    let t4 : total (u .pre) / 4 ≡ 2 * (total (u .pre) / 8) = omega arith in
-    record {
-      pre = u .pre;
-      size = n;
-      post = u .post;
-      is = u .is;
-      low = omega arith;
-      high = omega arith;
-      cold = subst (λ (t : ℕ). Mem (nameOf t) (m .figs .cached) → ⊥) b c;
-    }
-
 module _ {S : Type 0} {op : Ops S Figures} {most places : ℕ} (E : Edition op most places) where
   -- a word that a live payload holds is live
   pub live-holds : (s : S) (p i : ℕ) → Sound op most places s → 0 < liveAt op most places s p → Holds p (liveAt op most places s p) i → Live op most places s i
@@ -249,7 +228,7 @@ module _ {S : Type 0} {op : Ops S Figures} {most places : ℕ} (E : Edition op m
       let v = live-is E (soundᵇ op most places) s m h p alive in
       let n = live-len E (soundᵇ op most places) s m h p alive in
       let u = used-at (m .cs) (p - 4) (let y = v .1 in omega arith) in
-      record { shows = m; abs = h; word = live-word m p i (usedAt (m .cs) (p - 4)) u (h .legal) (v .2) (v .3) (subst (λ (t : ℕ). Holds p t i) (e ∙ n) w) }
+      (m, h, (p, usedAt (m .cs) (p - 4), (v .3, u, v .2), subst (λ (t : ℕ). Holds p t i) (e ∙ n) w))
 
   -- a handout changes no word of a live payload
   hand-contents : (s : S) (size p i : ℕ) → 0 < liveAt op most places s p → Holds p (liveAt op most places s p) i

@@ -39,7 +39,7 @@ use Rattle.words.proofs.Laws.Links.{Lawful}
 use Rattle.rules.specs.State.{ops}
 use Rattle.rules.specs.Rules.{Figures, says, byteOf, nameOf, Chosen, none, one, choose, withCached, released, fromList, fromCache, serve, handOut}
 use Rattle.rules.specs.Rules.{settled, takeBack}
-use Rattle.rules.specs.Machine.{Model, Request, ask, give, callM, sizeM, searched, searchM, liveM, gaveM, settledM, takeBackM, madeM}
+use Rattle.rules.specs.Machine.{Model, Request, ask, give, Answer, answerOf, callM, sizeM, searched, searchM, liveM, gaveM, settledM, takeBackM, madeM, stepsM, repliesM}
 use Rattle.rules.specs.Sound.{Accepted, Shows}
 use Rattle.rules.proofs.Store.{Edition}
 use Rattle.rules.proofs.Follow.{Follows, shown, whole, L, search-same, met-free, used-size, left-there, live-same, snoc-used, r16, r8}
@@ -47,21 +47,39 @@ use Rattle.rules.proofs.Follow.{Picked, choose-picked, choose-cached, p
 use Rattle.rules.proofs.Bounds.{cached-fits}
 use Rattle.rules.proofs.Decide.{true-sound, layout-unique}
 use Rattle.rules.specs.Test.{soundᵇ}
-use Rattle.rules.specs.Demands.{hand, back}
+use Rattle.rules.specs.Demands.{LiveWord, hand, back}
 use Rattle.rules.proofs.Demands.{hand-follows, back-follows}
 use Rattle.rules.specs.Making.{fresh}
 use Rattle.rules.proofs.Editions.{edition, made-shows}
-use Rattle.rules.specs.Runs.{Live, LiveWord, Same, acts, call, machine}
+use Rattle.rules.specs.Runs.{Live, Same, acts, call, machine}
 
+-- the machine's runs
+pub steps-machine : (places : ℕ) (qs : List Request) (m : Model) → steps (machine places) qs m ≡ stepsM places qs m
+unfolding steps stepsM
+steps-machine places [] m = refl
+steps-machine places (q ∷ qs) m = steps-machine places qs (callM places q m .after)
+
+pub replies-machine : (places : ℕ) (qs : List Request) (m : Model) → replies (machine places) qs m ≡ repliesM places qs m
+unfolding replies repliesM
+replies-machine places [] m = refl
+replies-machine places (q ∷ qs) m = ap (λ (bs : List Answer). answerOf (callM places q m) ∷ bs) (replies-machine places qs (callM places q m .after))
+
+-- a live word lies in the payload of a used chunk
 payload : (m : Model) (i : ℕ) → LiveWord m i → Payload (m .cs) i
-payload m i l = let a = l .low in let b = l .high in record { pre = l .pre; size = l .size; post = l .post; is = l .is; low = omega arith; high = omega arith }
+payload m i l =
+    let u = l .2 .1 in
+    let b = u .byte in
+    let p4 = l .2 .0 in
+    let lo = l .3 .0 in
+    let hi = l .3 .1 in
+    record { pre = u .pre; size = l .1; post = u .post; is = u .is; low = omega arith; high = omega arith }
 
 module _ {S : Type 0} {op : Ops S Figures} {most places : ℕ} (E : Edition op most places) where
   abbrev Sh : S → Model → Type 0
   Sh = Shows op most places
 
   payload-of : (s : S) (m : Model) (i : ℕ) → Sh s m → Live op most places s i → Payload (m .cs) i
-  payload-of s m i h l = subst (λ cs. Payload cs i) (layout-unique E s (l .shows) m (l .abs) h) (payload (l .shows) i (l .word))
+  payload-of s m i h l = subst (λ cs. Payload cs i) (layout-unique E s (l .0) m (l .1) h) (payload (l .0) i (l .2))
 
   pub write-shows : (s : S) (m : Model) (i v : ℕ) → Sh s m → Live op most places s i → Sh (op .setWord s i v) m
   write-shows s m i v h l =
@@ -79,7 +97,6 @@ module _ {S : Type 0} {op : Ops S Figures} {most places : ℕ} (E : Edition op m
     shows = m;
     left = a;
     right = b;
-    figures = a .figs ∙ sym (b .figs);
     tags = λ i g. tags-agree (op .word s) (op .word t) 0 true (m .cs) (a .tags) (b .tags) i g;
     nexts = λ k x h i. (seg-agree (op .next s) (op .prev s) (op .next t) (op .prev t) k (m .orders k) k (a .lists k h) (b .lists k h)) .0 x i;
     prevs = λ k x h i. (seg-agree (op .next s) (op .prev s) (op .next t) (op .prev t) k (m .orders k) k (a .lists k h) (b .lists k h)) .1 x i;
@@ -136,6 +153,7 @@ module _ {S : Type 0} {op : Ops S Figures} {most places : ℕ} (E : Edition op m
   module _ (s : S) (m : Model) (h : Sh s m) (i : ℕ) where
     -- a cached chunk's payload holds no word of a live one
     cached-out : (l : LiveWord m i) (x : ℕ) → Mem x (m .figs .cached) → (i ≤ x - 6) ⊎ (x - 6 + lengthAt op s x / 4 ≤ i)
+    unfolding payload
     cached-out l x q =
         let v = h .cache .used x q in
         let v0 = v .0 in
@@ -144,13 +162,14 @@ module _ {S : Type 0} {op : Ops S Figures} {most places : ℕ} (E : Edition op m
         let u = used-at (m .cs) (byteOf x) (omega arith) in
         let b : (x - 6) * 4 ≡ total (u .pre) = u .byte in
         let y = used-size E s m h x (v .0) (v .1) in
-        let lo = l .low in
-        let hi = l .high in
+        let w = payload m i l in
+        let lb = l .2 .1 .byte in
         let p : Payload (u .pre ++ busy n ∷ u .post) i =
-        record { pre = l .pre; size = l .size; post = l .post; is = sym (u .is) ∙ l .is; low = omega arith; high = omega arith } in
+        record { pre = w .pre; size = w .size; post = w .post; is = sym (u .is) ∙ w .is; low = w .low; high = w .high } in
         past-emptied ((0 + total (u .pre)) / 4) ((0 + total (u .pre) + n) / 4) i (x - 6) (lengthAt op s x) (omega arith) (omega arith)
         (payload-other (u .pre) n (u .post) i p
-        (λ e. l .cold (subst (λ (t : ℕ). Mem t (m .figs .cached)) (let r : x ≡ nameOf (total (l .pre)) = omega arith in r) q)))
+        (λ e. l .2 .2 (subst (λ (t : ℕ). Mem t (m .figs .cached)) (let d : total (u .pre) ≡ total (l .2 .1 .pre) = e in
+        let r : x ≡ nameOf (l .0 - 4) = omega arith in r) q)))
 
     hand-keeps : (size : ℕ) → LiveWord m i → op .word (hand op most places s size .after) i ≡ op .word s i
     unfolding handOut serve fromCache fromList
@@ -238,10 +257,10 @@ module _ {S : Type 0} {op : Ops S Figures} {most places : ℕ} (E : Edition op m
   pub payload-kept : (q : Request) (s : S) (i : ℕ) → Live op most places s i → Live op most places (call op most places q s .after) i
       → op .word (call op most places q s .after) i ≡ op .word s i
   unfolding call callM
-  payload-kept (ask n) s i l l′ = hand-keeps s (l .shows) (l .abs) i n (l .word)
+  payload-kept (ask n) s i l l′ = hand-keeps s (l .0) (l .1) i n (l .2)
   payload-kept (give p) s i l l′ =
-      back-keeps s (l .shows) (l .abs) i p (payload (l .shows) i (l .word))
-      (payload-of (back op most places s p .after) (takeBackM places (l .shows) p .after) i (back-follows E s (l .shows) (l .abs) p .after) l′)
+      back-keeps s (l .0) (l .1) i p (payload (l .0) i (l .2))
+      (payload-of (back op most places s p .after) (takeBackM places (l .0) p .after) i (back-follows E s (l .0) (l .1) p .after) l′)
 
 -- DEMAND 3, from making on, for any two link widths: the editions agree. With one width these are two heaps of one edition
 module _ {W W′ : Width} (E : Lawful W) (E′ : Lawful W′) (most most′ places : ℕ) (f : most + 6 ≤ W .limit) (f′ : most′ + 6 ≤ W′ .limit) where

@@ -4,6 +4,7 @@
 --     Changed, changes-none, ..-set       words that differ at some places at most, and the stores that keep to them
 --     undo-by                             THE LAW: a step that stores at the noted places alone is undone by the notes
 --     undo-none, undo-on, undo-whole      no step; a step after a step; all notes of a log put back
+--     undo-within, room-within, room-on   looser bounds; the room that a step leaves
 use mathlib.Core.Path.{_≡_, refl, sym, ap, _∙_}
 use mathlib.Core.Bool.{Bool, true, false}
 use mathlib.Core.List.{List, [], _∷_, _++_, List·Memᴰ, List·Memᴰ·head, List·Memᴰ·tail, List·Memᴰ·not-nil, Memᴰ·cast}
@@ -18,7 +19,7 @@ use Rattle.words.specs.Choice.{pick}
 use Rattle.words.specs.Tags.{at, headerOf, rightOf, footerOf, changed}
 use Rattle.words.specs.Links.{Width, Side, setLinkAt, setChunkLink}
 use Rattle.steps.specs.Chunk.{freed}
-use Rattle.steps.specs.Undone.{undone, restored, Notes, Undoes, tagPlaces}
+use Rattle.steps.specs.Undone.{undone, restored, Room, Notes, Undoes, tagPlaces}
 use Rattle.steps.proofs.Neighbours.{footer-place}
 
 -- PUTTING BACK: no note is left, or one more
@@ -143,6 +144,22 @@ undo-on m n ws us vs log mid after k r t a b =
     let p = a .most in
     let q = b .most in
     record { most = omega arith; back = b .back ∙ a .back }
+
+-- a looser bound on the notes
+pub undo-within : (m n : ℕ) (ws us log after : List ℕ) (k r : ℕ) → m ≤ n → Undoes m ws log k us after r → Undoes n ws log k us after r
+undo-within m n ws us log after k r h a = let p = a .most in record { most = omega arith; back = a .back }
+
+-- room for m notes is room for fewer; and after a step that took m, there is room for n
+pub room-within : (m n : ℕ) (ws log : List ℕ) (k : ℕ) → n ≤ m → Room ws log k m → Room ws log k n
+room-within m n ws log k l h = let f = h .fits in record { named = h .named; fits = omega arith }
+
+pub room-on : (m n : ℕ) (ws us log after : List ℕ) (k r : ℕ) → Room ws log k (m + n) → length us ≡ length ws → length after ≡ length log
+    → Undoes m ws log k us after r → Room us after r n
+room-on m n ws us log after k r h e l u =
+    let f = h .fits in
+    let g = h .named in
+    let p = u .most in
+    record { named = omega arith; fits = omega arith }
 
 -- the notes of a log that was empty, put back, give the words as they were
 pub undo-whole : (n : ℕ) (ws us log after : List ℕ) (r : ℕ) → Undoes n ws log 0 us after r → undone after r us ≡ ws

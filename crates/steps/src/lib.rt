@@ -1,4 +1,5 @@
-// Steps that know no record: what the heap's calls do to words and numbers alone. Every function is total, as those of `words` are.
+// Steps that know no record: what the heap's calls do to words and numbers alone. Every function takes any words, as those of
+// `words` do; some ask for a bound against overflow, an index below 2^32 or room in a lent log.
 //
 //     free      the tags of a free chunk, and a chunk's free neighbours: set_free_chunk_hdr_ftr, left_free, right_free, merge_case
 //     merge     what releasing a chunk makes of it and its free neighbours

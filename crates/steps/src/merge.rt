@@ -10,7 +10,7 @@ use words::WordIndex;
 pub struct Merged {
     // where it begins: the chunk's own header, or its left neighbour's if that is free
     pub hdr: WordIndex,
-    // its length in bytes; the sum wraps where tags lie
+    // its length in bytes; on damaged tags the sum may wrap
     pub size: u32,
     // its link, which is the left neighbour's if that is free
     pub link: Link,

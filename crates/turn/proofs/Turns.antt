@@ -16,6 +16,8 @@ use Rattle.words.specs.Links.{narrow}
 use Rattle.rules.specs.Rules.{Outcome, says}
 use Rattle.rules.specs.Making.{State, make}
 use Rattle.rules.specs.Demands.{hand, back}
+use Rattle.rules.specs.Machine.{ask, give}
+use Rattle.rules.specs.Runs.{call}
 use Rattle.rules.proofs.Proved.{narrow-demands, narrow-making}
 use Rattle.heap.specs.declared.record.Record.{Record}
 use Rattle.heap.specs.Seen.{seen, base}
@@ -76,10 +78,11 @@ making-kept s n = fits (leb n (length (s .words)))
 
 -- whatever the line
 turned-kept : (s : State) (l : Line) → Kept s (turned s l)
+unfolding call
 turned-kept s Bad = λ h. refl
 turned-kept s (Good (Make n)) = making-kept s n
-turned-kept s (Good (HandOut size)) = first-kept (s .rest .words) (λ t. hand base 65529 1 t size) s (λ t. narrow-demands 1 .refused .0 t size)
-turned-kept s (Good (TakeBack p)) = first-kept (s .rest .words) (λ t. back base 65529 1 t p) s (λ t. narrow-demands 1 .refused .1 t p)
+turned-kept s (Good (HandOut size)) = first-kept (s .rest .words) (λ t. hand base 65529 1 t size) s (λ t. narrow-demands 1 .refused (ask size) t)
+turned-kept s (Good (TakeBack p)) = first-kept (s .rest .words) (λ t. back base 65529 1 t p) s (λ t. narrow-demands 1 .refused (give p) t)
 
 -- a refusal changes nothing
 pub turn-refused : (r : Record) (ws vs : List ℕ) (l : Line) (t : Reply)

@@ -1,16 +1,16 @@
--- `replay::put_words` is safe and ends. Invariant: k is at most n, and the buffer keeps its length. Measure: the words left.
-use borrow.Author.Needs.{needs}
+-- `replay::put_words` is safe and ends. Invariant: the room keeps its length. Measure: the words left.
 use mathlib.Core.Path.{_≡_}
-use Prim.Native.Nat.{_≤_, _-_}
+use Prim.Native.Nat.{_-_}
 use lib.ListN.{length}
+use borrow.Author.Needs.{needs}
 use Rattle.replay.proofs.put_words.Statement.{statement}
 use Rattle.replay.proofs.put_words.Tie as tie
 
 abbrev Inv-loop : tie.InvT-loop
-Inv-loop out₀ memory n o₀ k₀ out o k = (k ≤ n) × (length out ≡ length out₀)
+Inv-loop room₀ at words n end₀ k₀ room end k = length room ≡ length room₀
 
 abbrev μ-loop : tie.MeasureT-loop
-μ-loop out₀ memory n o₀ k₀ out o k = n - k
+μ-loop room₀ at words n end₀ k₀ room end k = n - k
 
 loop-holds : tie.Need-loop-holds Inv-loop μ-loop
 loop-holds c = search needs

@@ -9,7 +9,7 @@ use borrow.Author.Needs.{needs}
 use Rattle.words.specs.Tags.{at}
 use Rattle.audit.specs.Shown.{cachedOf}
 use Rattle.rules.specs.Chunks.{total}
-use Rattle.rules.specs.Test.{tile}
+use Rattle.rules.specs.Place.{tile}
 use Rattle.map.specs.Rows.{linesOf}
 use Rattle.map.specs.Layout.{mapOf}
 use Rattle.map.specs.Calls.{over}

@@ -1,0 +1,2 @@
+-- The laws behind the proofs.
+pub mod Laws

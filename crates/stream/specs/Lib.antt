@@ -1,0 +1,3 @@
+-- What the contracts cite: one read with its bytes fed, and a whole run.
+pub mod Stepping
+pub mod Ran
