@@ -34,7 +34,7 @@ bytes (String._∷_ c s) = code c ∷ bytes s
 
 -- a text, read
 abbrev read : String → Read
-read t = readAll 65529 1 (bytes t)
+read t = readAll 65529 (one .places) (bytes t)
 
 -- 33 words made; 20, 12 and 52 bytes asked for; the second and the third taken back
 abbrev worn : State
@@ -46,7 +46,7 @@ wornMap = "110000000000000018\n100000001800000010\n120000002800000038\n100000006
 
 -- it is written, with what is past it in the room left as it was, and not into room that is a byte short
 pub worn-written :
-    written worn (replicate 80 255) ∷ written worn (replicate 75 255) ∷ []
+    written (one .places) worn (replicate 80 255) ∷ written (one .places) worn (replicate 75 255) ∷ []
     ≡ says 0 4 0 (bytes wornMap ++ replicate 4 255) ∷ says 6 0 0 (replicate 75 255) ∷ []
 unfolding written laid over rowsOf mapOf linesOf answerBytes digitsOf byteOf
     call handOut takeBack live choose listed make serve fromCache fromList firstFit settled link unlink setLeft clearLeft markFree markUsed oneChunk

@@ -6,6 +6,7 @@
 // states and their maps after each, in the same form (tests/trace/README.md): the check of this crate compares them byte by byte.
 //
 // Reading is in crate `stream`. One byte is lent to a read, so that no more than one line is answered before its state is written.
+use heap::Kind;
 use heap::Record;
 use map::Answer;
 use stream::Stream;
@@ -44,14 +45,15 @@ fn write(room: &[u8], n: usize) -> bool {
 
 // Puts the whole state on a line, and the map behind it. Where the room ends now, as after each put.
 fn show(room: &mut [u8], at: usize, rec: Record, memory: &[u32]) -> usize {
-    let flag = rec.fresh as u32;
+    let flag = rec.fresh;
+    let cached = rec.cached;
     let figures = [
         rec.words,
         rec.in_use,
         rec.committed,
         rec.peak,
         rec.high,
-        wide(rec.cached.0),
+        wide(cached[0].0),
         flag,
     ];
     let prev = rec.prev;
@@ -125,7 +127,7 @@ fn put_map(room: &mut [u8], at: usize, rec: Record, memory: &[u32]) -> usize {
         return at;
     }
     let left = room.len() - at;
-    let answer = map::write_map(rec, &memory[0..n], &mut room[at..]);
+    let answer = map::write_map(rec, &memory[0..n], &mut room[at..], Kind::One);
     let Answer::Done(chunks) = answer else {
         return at;
     };

@@ -15,6 +15,7 @@ use lib.Seq.{length-take-le}
 use borrow.Author.Tests.{le-leb, lt-leb, lt-ltb, le-ltb, ltb-true}
 use Rattle.words.specs.Choice.{pick}
 use Rattle.heap.specs.declared.record.Record.{Record}
+use Rattle.cache.specs.Places.{cachedOf}
 use Rattle.heap.specs.Seen.{seen, emptyRecord}
 use Rattle.io.specs.Counts.{clamped}
 use Rattle.feed.specs.declared.pieces.Trace.{Trace}
@@ -102,6 +103,7 @@ last-length os l n h k e = sym (length-take-le n os (omega arith)) ∙ ap length
 -- before the first byte
 pub going-first : (a : Bool) (memory : List ℕ) (s : Stream) → s .trace .rec ≡ emptyRecord → textOf (s .trace .line) ≡ [] → s .left ≡ most → s .written ≡ 0
     → Going a memory s memory
+unfolding cachedOf
 going-first a memory s r l n w =
     record {
       ran = record {
