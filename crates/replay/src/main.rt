@@ -24,7 +24,7 @@ fn main() {
 fn replay(memory: &mut [u32], input: &mut [u8], room: &mut [u8]) {
     let mut s = Stream::start();
     while s.more {
-        s = stream::next(s, memory, input, room);
+        s = stream::next(s, memory, input, room, Kind::One);
         if 0 < s.filled {
             let trace = s.trace;
             let end = show(room, s.filled, trace.rec, memory);

@@ -16,7 +16,7 @@ returns : tie.Need-returns
 returns c =
     let at-feed = c .before .before .before .before in
     let entry = at-feed .before .before .before .before .before .before in
-    (all-taken _ _ (entry .args .input .now) _ _ _ (entry .pre) (at-feed .feed .ensures .3) (at-feed .feed .ensures .4) (at-feed .feed .ensures .0), at-feed .feed .ensures .2)
+    (all-taken _ _ _ (entry .args .input .now) _ _ _ (entry .pre) (at-feed .feed .ensures .3) (at-feed .feed .ensures .4) (at-feed .feed .ensures .0), at-feed .feed .ensures .2)
 
 pub feed-whole-spec : {M : Type 1} → statement M
 feed-whole-spec = tie.close (tie.spec feed-requires same-length same-length-2 returns)

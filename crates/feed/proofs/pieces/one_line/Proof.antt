@@ -30,8 +30,8 @@ add-taken c = search needs
 answer-requires : tie.Need-answer-requires
 answer-requires c κs = search needs
 
-add-t25 : tie.Need-add-t25
-add-t25 c = omega (arith, c .before .before .before .before .before .before .before .before .before .before .before .before .before .before .before .before .before .before .pre .1, c .before .before .before .before .before .before .before .before .before .before .before .before .before .before .before .before .before .before .good)
+add-t26 : tie.Need-add-t26
+add-t26 c = omega (arith, c .before .before .before .before .before .before .before .before .before .before .before .before .before .before .before .before .before .before .pre .1, c .before .before .before .before .before .before .before .before .before .before .before .before .before .before .before .before .before .before .good)
 
 same-length : tie.Need-same-length
 same-length c = search needs
@@ -44,7 +44,7 @@ returns c =
     let stood = stands (c .before .before .before .before .before .before .before .before .before .before .before .before .before .before .before .before .before .before .args .fed) (c .before .before .before .before .before .before .before .before .before .before .before .before .before .before .before .before .before .before .args .memory .now) (c .before .before .before .before .before .before .before .before .before .before .before .before .before .before .before .before .before .before .args .out .now) in
     let read = read-rest _ (c .before .before .before .before .before .before .before .before .before .before .before .before .before .before .before .before .before .before .args .input .now) (c .before .before .before .before .before .before .before .before .before .before .before .before .before .before .before .before .before .before .args .fed .taken) (c .before .before .before .before .before .before .before .before .before .before .read-on .result) (c .before .before .before .before .before .before .before .before .before .before .read-on .ensures .0) in
     let part = length-take-le (length (c .before .before .before .before .before .before .before .before .before .before .before .before .before .before .before .before .before .before .args .input .now) - c .before .before .before .before .before .before .before .before .before .before .before .before .before .before .before .before .before .before .args .fed .taken) (drop (c .before .before .before .before .before .before .before .before .before .before .before .before .before .before .before .before .before .before .args .fed .taken) (c .before .before .before .before .before .before .before .before .before .before .before .before .before .before .before .before .before .before .args .input .now)) (omega (arith, length-drop (c .before .before .before .before .before .before .before .before .before .before .before .before .before .before .before .before .before .before .args .fed .taken) (c .before .before .before .before .before .before .before .before .before .before .before .before .before .before .before .before .before .before .args .input .now))) in (
-      took-whole stood _ _ read _ _ (c .before .before .before .before .before .before .before .if1 .taken) (c .before .before .before .before .answer .ensures),
+      took-whole _ stood _ _ read _ _ (c .before .before .before .before .before .before .before .if1 .taken) (c .before .before .before .before .answer .ensures),
       ap (λ (x : Reading). x .rest) read,
       omega (arith, c .before .before .before .before .before .before .before .before .before .before .read-on .ensures .1, part, c .before .before .before .before .before .before .before .before .before .before .before .before .before .before .before .before .before .before .pre .0),
       omega (arith, c .before .before .before .before .before .before .before .before .before .before .read-on .ensures .2, part, c .before .before .before .before .before .before .before .before .before .before .before .before .before .before .before .before .before .before .pre .0),
@@ -57,7 +57,7 @@ returns-2 c =
     let stood = stands (c .before .before .before .before .before .before .before .before .before .before .before .args .fed) (c .before .before .before .before .before .before .before .before .before .before .before .args .memory .now) (c .before .before .before .before .before .before .before .before .before .before .before .args .out .now) in
     let read = read-rest _ (c .before .before .before .before .before .before .before .before .before .before .before .args .input .now) (c .before .before .before .before .before .before .before .before .before .before .before .args .fed .taken) (c .before .before .before .read-on .result) (c .before .before .before .read-on .ensures .0) in
     let part = length-take-le (length (c .before .before .before .before .before .before .before .before .before .before .before .args .input .now) - c .before .before .before .before .before .before .before .before .before .before .before .args .fed .taken) (drop (c .before .before .before .before .before .before .before .before .before .before .before .args .fed .taken) (c .before .before .before .before .before .before .before .before .before .before .before .args .input .now)) (omega (arith, length-drop (c .before .before .before .before .before .before .before .before .before .before .before .args .fed .taken) (c .before .before .before .before .before .before .before .before .before .before .before .args .input .now))) in (
-      took-open stood _ _ read (c .if1 .left),
+      took-open _ stood _ _ read (c .if1 .left),
       ap (λ (x : Reading). x .rest) read,
       omega (arith, c .before .before .before .read-on .ensures .1, part, c .before .before .before .before .before .before .before .before .before .before .before .pre .0),
       omega (arith, c .before .before .before .read-on .ensures .2, part, c .before .before .before .before .before .before .before .before .before .before .before .pre .0),
@@ -75,7 +75,7 @@ one-line-spec =
     read-on-requires
     add-taken
     answer-requires
-    add-t25
+    add-t26
     same-length
     same-length-2
     returns
