@@ -1,7 +1,7 @@
 // The replay: answers frames as the trace program does, and after each answer prints the whole state of the heap in use, and its map.
 //
 // A state is a line of numbers, each eight digits after a space: the words of the heap, bytes in use, bytes committed, peak, high water, the
-// cached chunk's link (0 for none), the flag; the six prev and the six next links of the sentinels; then every word of the heap. The lines of
+// cached chunks' links, oldest first (0 for an unused place, and only one is used), the flag; the six prev and the six next links of the sentinels; then every word of the heap. The lines of
 // the map (W-201) come after it: one for each chunk, none before a heap is made. The file `stdin` holds requests, and `stdout` the original's
 // states and their maps after each, in the same form (tests/trace/README.md): the check of this crate compares them byte by byte.
 //
@@ -15,8 +15,8 @@ use words::Link;
 fn main() {
     let mut memory = [0u32; 16383];
     let mut input = [0u8; 1];
-    // an answer line, 19 numbers of the record and 16,383 words of 9 bytes each, a line feed, and 4,095 lines of a map
-    let mut room = [0u8; 225443];
+    // an answer line, 22 numbers of the record and 16,383 words of 9 bytes each, a line feed, and 4,095 lines of a map
+    let mut room = [0u8; 225470];
     replay(&mut memory, &mut input, &mut room);
 }
 
@@ -54,13 +54,16 @@ fn show(room: &mut [u8], at: usize, rec: Record, memory: &[u32]) -> usize {
         rec.peak,
         rec.high,
         wide(cached[0].0),
+        wide(cached[1].0),
+        wide(cached[2].0),
+        wide(cached[3].0),
         flag,
     ];
     let prev = rec.prev;
     let next = rec.next;
     let prevs = numbers(prev);
     let nexts = numbers(next);
-    let first = put_words(room, at, &figures, 7);
+    let first = put_words(room, at, &figures, 10);
     let second = put_words(room, first, &prevs, 6);
     let third = put_words(room, second, &nexts, 6);
     let fourth = put_words(room, third, memory, rec.words as usize);
