@@ -219,7 +219,8 @@ module _ (r : Record) (ws : List ℕ) (z : ℕ) (h : Served (seen r ws) z) where
   pub figures-safe : FiguresFit base (seen r ws) 65529
   figures-safe = figures-fitᵇ (ours 4) (seen r ws) (h .sound)
 
-  pub listed-lost : lost ≡ walkedFit base (seen r ws) z → outcome Damaged (seen r ws) ≡ fromList base (seen r ws) z (firstFit base (seen r ws) z)
+  pub listed-lost : lost ≡ walkedFit base (seen r ws) z
+      → outcome Damaged (seen r ws) ≡ fromList base (seen r ws) z (firstFit base (seen r ws) z)
   listed-lost e = absurd (never-lostᵇ (ours 4) (seen r ws) (h .sound) z (sym (walks lost e)))
 
   pub nowhere-safe : (c : ℕ) → nowhere c ≡ walkedFit base (seen r ws) z → c < 65536
@@ -228,7 +229,8 @@ module _ (r : Record) (ws : List ℕ) (z : ℕ) (h : Served (seen r ws) z) where
       let f = figures-safe .accepted in
       omega arith
 
-  pub listed-nowhere : (c d : ℕ) → d ≡ c → nowhere c ≡ walkedFit base (seen r ws) z → outcome (NoFit d) (seen r ws) ≡ fromList base (seen r ws) z (firstFit base (seen r ws) z)
+  pub listed-nowhere : (c d : ℕ) → d ≡ c → nowhere c ≡ walkedFit base (seen r ws) z
+      → outcome (NoFit d) (seen r ws) ≡ fromList base (seen r ws) z (firstFit base (seen r ws) z)
   unfolding fromList
   listed-nowhere c d ed e = subst (λ (f : Found). outcome (NoFit d) (seen r ws) ≡ fromList base (seen r ws) z f) (walks (nowhere c) e) (rw ed refl)
 
@@ -256,7 +258,8 @@ module _ (r : Record) (ws : List ℕ) (z : ℕ) (h : Served (seen r ws) z) where
       go false q = ap (λ (v : ℕ). v % 8) (e ∙ ap (λ (t : Bool). pick t z n) q) ∙ n8
 
   -- both sums stay in range
-  pub count-safe : (a : Record) (ws1 : List ℕ) (x c i n m : ℕ) → rule.at x c ≡ walkedFit base (seen r ws) z → i ≡ x - 6 → n ≡ lengthOf (at ws i) → m ≡ portion n z
+  pub count-safe : (a : Record) (ws1 : List ℕ) (x c i n m : ℕ) → rule.at x c ≡ walkedFit base (seen r ws) z
+      → i ≡ x - 6 → n ≡ lengthOf (at ws i) → m ≡ portion n z
       → seen a ws1 ≡ takeChunk base (seen r ws) (x - 6) n z → (a .«in_use» + m < 2 ^ 32) × (a .committed + m < 2 ^ 32)
   count-safe a ws1 x c i n m ef ei en em ea =
       let q = found-safe x c ef .room in
@@ -269,7 +272,8 @@ module _ (r : Record) (ws : List ℕ) (z : ℕ) (h : Served (seen r ws) z) where
       let w : a .committed ≡ r .committed = ap (λ (g : Figures). g .committed) kept in
       (omega arith, omega arith)
 
-  pub listed-hit : (a q : Record) (ws1 ws2 : List ℕ) (x c i n m j e d : ℕ) (p : ByteOffset) → rule.at x c ≡ walkedFit base (seen r ws) z → i ≡ x - 6 → n ≡ lengthOf (at ws i) → m ≡ portion n z
+  pub listed-hit : (a q : Record) (ws1 ws2 : List ℕ) (x c i n m j e d : ℕ) (p : ByteOffset)
+      → rule.at x c ≡ walkedFit base (seen r ws) z → i ≡ x - 6 → n ≡ lengthOf (at ws i) → m ≡ portion n z
       → seen a ws1 ≡ takeChunk base (seen r ws) (x - 6) n z → ws2 ≡ emptiedIn ws1 i m → j ≡ rightOf i m % 2 ^ 64 → e ≡ heldName offsets j → q ≡ countedIn a m e → p .0 ≡ heldName payloads i → d ≡ c
       → outcome (Done p d) (seen q ws2) ≡ fromList base (seen r ws) z (firstFit base (seen r ws) z)
   unfolding fromList
@@ -290,7 +294,8 @@ module _ (r : Record) (ws : List ℕ) (z : ℕ) (h : Served (seen r ws) z) where
       let empty : seen q ws2 ≡ emptied base (base .setRest (takeChunk base (seen r ws) (x - 6) n z) (counted (figuresOf r) m (byteOf x + m))) (x - 6) m =
       ap (λ (vs : List ℕ). seen q vs) ec ∙ emptied-seen q ws1 i m ∙ ap (λ (s : State). emptied base s i m) state
       ∙ ap (λ (k : ℕ). emptied base (base .setRest (takeChunk base (seen r ws) (x - 6) n z) (counted (figuresOf r) m (byteOf x + m))) k m) ei in
-      subst (λ (k : Found). outcome (Done p d) (seen q ws2) ≡ fromList base (seen r ws) z k) (walks (rule.at x c) ef) (rw (empty, pay, ed, em, v) refl)
+      subst (λ (k : Found). outcome (Done p d) (seen q ws2) ≡ fromList base (seen r ws) z k) (walks (rule.at x c) ef)
+      (rw (empty, pay, ed, em, v) refl)
 
 -- ---- WHAT IS LIVE
 

@@ -144,7 +144,8 @@ module _ (places : ℕ) where
     pub served-exactly : HandsOut places r ws n o vs
         → Iff (number (o .answer) ≡ 0) (Allowable (ask n) × SoundIn places r ws × (UnfitIn r ws (roundedOf n) → ⊥))
     served-exactly e =
-        subst (λ (x : Outcome State). Iff (x .number ≡ 0) (Allowable (ask n) × SoundIn places r ws × (UnfitIn r ws (roundedOf n) → ⊥))) (sym e) (told .served (seen r ws) n)
+        subst (λ (x : Outcome State). Iff (x .number ≡ 0) (Allowable (ask n) × SoundIn places r ws × (UnfitIn r ws (roundedOf n) → ⊥))) (sym e)
+        (told .served (seen r ws) n)
 
     -- 3 exactly for an allowable size, on a sound heap (one that shows a model) where nothing fits
     pub three-exactly : HandsOut places r ws n o vs

@@ -21,13 +21,15 @@ said NotLive = record { number = 4; value = 0; compared = 0 }
 said Damaged = record { number = 5; value = 0; compared = 0 }
 said BadLength = record { number = 6; value = 0; compared = 0 }
 
--- the three of them
+-- its number
 abbrev pub number : Answer → ℕ
 number a = said a .number
 
+-- what is returned
 abbrev pub value : Answer → ℕ
 value a = said a .value
 
+-- how many were compared
 abbrev pub compared : Answer → ℕ
 compared a = said a .compared
 

@@ -34,10 +34,11 @@ numbersOf (ask size) = 0 ∷ 1 ∷ 2 ∷ 3 ∷ 5 ∷ []
 numbersOf (give p) = 0 ∷ 4 ∷ 5 ∷ []
 
 module _ {S : Type 0} (op : Ops S Figures) (most places : ℕ) where
-  -- the outcome of asking a state for a size, and of giving a payload offset back to it
+  -- the outcome of asking a state for a size
   abbrev pub asked : S → ℕ → Outcome S
   asked s size = hand op most places s size
 
+  -- and of giving a payload offset back to it
   abbrev pub given : S → ℕ → Outcome S
   given s p = back op most places s p
 
@@ -45,6 +46,7 @@ module _ {S : Type 0} (op : Ops S Figures) (most places : ℕ) where
   abbrev pub Answers : Type 0
   Answers = (q : Request) (s : S) → Mem (call op most places q s .number) (numbersOf q)
 
+  -- after a refusal all is as it was
   abbrev pub RefusedUnchanged : Type 0
   RefusedUnchanged = (q : Request) (s : S) → call op most places q s .number ≢ 0 → call op most places q s .after ≡ s
 
@@ -59,11 +61,13 @@ module _ {S : Type 0} (op : Ops S Figures) (most places : ℕ) where
   abbrev pub SoundTested : Type 0
   SoundTested = (s : S) → Iff (soundᵇ op most places s ≡ true) (Sound op most places s)
 
+  -- a state shows one layout, one order of each list and one set of figures
   abbrev pub SoundUnique : Type 0
   SoundUnique =
       (s : S) (m n : Model) → Shows op most places s m → Shows op most places s n
       → (m .cs ≡ n .cs) × ((k : ℕ) → k < 6 → m .orders k ≡ n .orders k) × (m .figs ≡ n .figs)
 
+  -- a call on a sound state leaves one
   abbrev pub SoundKept : Type 0
   SoundKept = (q : Request) (s : S) → Sound op most places s → Sound op most places (call op most places q s .after)
 
@@ -77,16 +81,20 @@ module _ {S : Type 0} (op : Ops S Figures) (most places : ℕ) where
   abbrev pub ZeroExactly : Type 0
   ZeroExactly = (s : S) (size : ℕ) → Iff (asked s size .number ≡ 1) (size ≡ 0)
 
+  -- 2 exactly above 4,294,967,284
   abbrev pub LargeExactly : Type 0
   LargeExactly = (s : S) (size : ℕ) → Iff (asked s size .number ≡ 2) (4294967284 < size)
 
+  -- 5 exactly on a state that is not sound, for a request that gets neither 1 nor 2
   abbrev pub DamagedExactly : Type 0
   DamagedExactly = (q : Request) (s : S) → Allowable q → Iff (call op most places q s .number ≡ 5) (Sound op most places s → ⊥)
 
+  -- 3 exactly where the model has no fit
   abbrev pub NoFitExactly : Type 0
   NoFitExactly =
       (s : S) (m : Model) → Shows op most places s m → (size : ℕ) → Allowable (ask size) → Iff (asked s size .number ≡ 3) (NoFit m (roundedOf size))
 
+  -- 4 exactly where no live payload begins
   abbrev pub NotLiveExactly : Type 0
   NotLiveExactly = (s : S) (m : Model) → Shows op most places s m → (p : ℕ) → Iff (given s p .number ≡ 4) ((n : ℕ) → LiveAt m p n → ⊥)
 
@@ -97,6 +105,7 @@ module _ {S : Type 0} (op : Ops S Figures) (most places : ℕ) where
       → (asked s size .compared ≡ 0 → FromCache m (roundedOf size) (asked s size .value))
       × (0 < asked s size .compared → FromList m (roundedOf size) (asked s size .value) (asked s size .compared))
 
+  -- how many at most, and how many where nothing fits
   abbrev pub Compared : Type 0
   Compared =
       (s : S) (m : Model) → Shows op most places s m → (size : ℕ)

@@ -59,7 +59,9 @@ module _ {S : Type 0} (op : Ops S Figures) (most places : ℕ) where
 
   -- a handout is done exactly for an allowable size, on a sound state, where something fits
   abbrev pub ServedExactly : Type 0
-  ServedExactly = (s : S) (size : ℕ) → Iff (asked op most places s size .number ≡ 0) (Allowable (ask size) × Sound op most places s × (Unfit s (roundedOf size) → ⊥))
+  ServedExactly =
+      (s : S) (size : ℕ)
+      → Iff (asked op most places s size .number ≡ 0) (Allowable (ask size) × Sound op most places s × (Unfit s (roundedOf size) → ⊥))
 
   -- 3 exactly for an allowable size, on a sound state, where nothing fits (what shows a model is sound)
   abbrev pub ThreeExactly : Type 0

@@ -1,7 +1,7 @@
 -- Laws of specs/Stepping.antt and specs/Ran.antt. Assumes nothing.
 use mathlib.Core.Path.{_≡_, refl, sym, ap, _∙_}
 use mathlib.Core.Bool.{Bool, true, false, false≢true}
-use mathlib.Core.List.{List, [], _∷_, _++_}
+use mathlib.Core.List.{List, [], _++_}
 use Prim.Native.Nat.{ℕ, _+_, _-_, _*_, _≤_, _<_, min}
 use native.Mathlib.Omega.{arith}
 use lib.Dec.{leb, ltb}
@@ -25,7 +25,7 @@ use Rattle.feed.specs.Feeding.{standing, stands, steps, lastLine}
 use Rattle.feed.specs.Trace.{traceOf}
 use Rattle.feed.proofs.Laws.{onLine, steps-none, all-taken}
 use Rattle.feed.proofs.Whole.{steps-after, allAnswers, whole-from}
-use Rattle.rules.specs.Making.{State, empty}
+use Rattle.rules.specs.Making.{empty}
 use Rattle.stream.specs.declared.step.Stream.{Stream}
 use Rattle.stream.specs.Stepping.{ended, fails, pieceOf, Takes, Next, Writes}
 use Rattle.stream.specs.Ran.{most, atFirst, Ran, Going, Answered}
@@ -169,7 +169,8 @@ pub answered-all : {places : ℕ} {a : Bool} {memory ms : List ℕ} {s : Stream}
     → Answered places a memory r ms
 answered-all {places = places} {memory = memory} {ms = ms} {s = s} r g w =
     let x = g .ran in
-    let all : x .answers ++ lastLine (textOf (s .trace .line)) ≡ traceOf places memory (x .input) = ap allAnswers (x .stands) ∙ whole-from _ (x .input) [] (empty memory) [] in
+    let all : x .answers ++ lastLine (textOf (s .trace .line)) ≡ traceOf places memory (x .input) =
+    ap allAnswers (x .stands) ∙ whole-from _ (x .input) [] (empty memory) [] in
     record {
       ran = record {
         input = x .input;
