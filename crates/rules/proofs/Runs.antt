@@ -176,7 +176,7 @@ module _ {S : Type 0} {op : Ops S Figures} {most places : ℕ} (E : Edition op m
     hand-keeps size l = rw (true-sound E s (m, h)) (go (eqb size 0) (ltb 4294967284 size))
       where
         list : (r : Found) → Fits (sizeM m) (roundedOf size) (searched m (roundedOf size)) r
-            → op .word (fromList op places (soundᵇ op most places) s (roundedOf size) r .after) i ≡ op .word s i
+            → op .word (fromList op s (roundedOf size) r .after) i ≡ op .word s i
         list (nowhere c) f = refl
         list lost f = refl
         list (at x c) f =
@@ -185,7 +185,7 @@ module _ {S : Type 0} {op : Ops S Figures} {most places : ℕ} (E : Edition op m
             took-keeps s (g .pre) (r .0) (g .post) (m .orders) (m .figs) x (roundedOf size) i _ (r16 size) (r8 size) (g .named)
             (subst (λ cs. Sh s (record { cs = cs; orders = m .orders; figs = m .figs })) (g .is) h) (subst (λ cs. Payload cs i) (g .is) (payload m i l))
 
-        served : (c : Chosen) → Picked (sizeM m) (roundedOf size) (m .figs .cached) c → op .word (fromCache op places (soundᵇ op most places) s (roundedOf size) c .after) i ≡ op .word s i
+        served : (c : Chosen) → Picked (sizeM m) (roundedOf size) (m .figs .cached) c → op .word (fromCache op s (roundedOf size) c .after) i ≡ op .word s i
         served (one x ks) p =
             let c = cached-fits E s m h x (subst (λ (f : Figures). Mem x (f .cached)) (sym (h .figs)) (p .1)) in
             let n16 = c .least in
@@ -193,11 +193,11 @@ module _ {S : Type 0} {op : Ops S Figures} {most places : ℕ} (E : Edition op m
             emptied-out (L E s m h) (op .setRest s g) (x - 6) (lengthAt op s x) i (omega arith) (cached-out l x (p .1))
             ∙ L E s m h .word-setRest s g i
         served none p =
-            rw (search-same E s m h (soundᵇ op most places) (roundedOf size))
+            rw (search-same E s m h (roundedOf size))
             (list (searchM m (roundedOf size)) (find-fits (sizeM m) (roundedOf size) (searched m (roundedOf size)) 0))
 
         go : (a b : Bool) → op .word ((pick a (says 1 0 0 s)
-            (pick b (says 2 0 0 s) (fromCache op places (soundᵇ op most places) s (roundedOf size)
+            (pick b (says 2 0 0 s) (fromCache op s (roundedOf size)
             (choose (lengthAt op s) (roundedOf size) (op .rest s .cached))))) .after) i ≡ op .word s i
         go true b = refl
         go false true = refl
@@ -230,7 +230,7 @@ module _ {S : Type 0} {op : Ops S Figures} {most places : ℕ} (E : Edition op m
         (shape-out (L E s m h) classOf class-below s n _ _ _ i (shape (L E s m h) classOf class-below s n (u .pre) (u .post) c lq) (subst (λ ds. Payload ds i) q p″))
 
     settled-keeps : (v : ℕ) (ks : List ℕ) → ((x : ℕ) → Mem x ks → (6 ≤ x) × (0 < usedAt (m .cs) (byteOf x))) → Payload (m .cs) i → Payload (settledM places m v ks .cs) i
-        → op .word (settled op places (soundᵇ op most places) s v ks) i ≡ op .word s i
+        → op .word (settled op places s v ks) i ≡ op .word s i
     unfolding settled
     settled-keeps v [] us p p′ = refl
     settled-keeps v (k ∷ ks) us p p′ = go (leb (length (k ∷ ks)) places) p′
@@ -243,15 +243,15 @@ module _ {S : Type 0} {op : Ops S Figures} {most places : ℕ} (E : Edition op m
 
     back-keeps : (p : ℕ) → Payload (m .cs) i → Payload (takeBackM places m p .after .cs) i → op .word (back op most places s p .after) i ≡ op .word s i
     unfolding takeBack takeBackM
-    back-keeps p a b = rw (true-sound E s (m, h), live-same E (soundᵇ op most places) s m h p, h .figs) (go (eqb (liveM m p) 0) refl b)
+    back-keeps p a b = rw (true-sound E s (m, h), live-same E s m h p, h .figs) (go (eqb (liveM m p) 0) refl b)
       where
         go : (t : Bool) → eqb (liveM m p) 0 ≡ t
             → Payload ((pick t (says 4 0 0 m) (says 0 0 0 (settledM places m (m .figs .inUse - liveM m p) (m .figs .cached ++ nameOf (p - 4) ∷ [])))) .after .cs) i
             → op .word ((pick t (says 4 0 0 s) (says 0 0 0
-            (settled op places (soundᵇ op most places) s (m .figs .inUse - liveM m p) (m .figs .cached ++ nameOf (p - 4) ∷ [])))) .after) i ≡ op .word s i
+            (settled op places s (m .figs .inUse - liveM m p) (m .figs .cached ++ nameOf (p - 4) ∷ [])))) .after) i ≡ op .word s i
         go true e y = refl
         go false e y =
-            settled-keeps (m .figs .inUse - liveM m p) (m .figs .cached ++ nameOf (p - 4) ∷ []) (snoc-used E (soundᵇ op most places) s m h p (eqb-false (liveM m p) 0 e)) a y
+            settled-keeps (m .figs .inUse - liveM m p) (m .figs .cached ++ nameOf (p - 4) ∷ []) (snoc-used E s m h p (eqb-false (liveM m p) 0 e)) a y
 
   -- NO CALL CHANGES a word of a payload live before and after it
   pub payload-kept : (q : Request) (s : S) (i : ℕ) → Live op most places s i → Live op most places (call op most places q s .after) i
