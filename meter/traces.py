@@ -28,6 +28,7 @@ DAMAGED = 20  # damaged histories, of about 400 requests each
 
 LINES = 10_000  # lines of the random trace
 FIRST = 6_000  # of these, on the largest heap
+PLACES = 1  # cache places of the calls that the image makes
 SEED = 20
 
 MAKE, HAND_OUT, TAKE_BACK, AUDIT = range(4)  # the audit is no frame of a trace, only a call to be counted
@@ -52,7 +53,7 @@ WHOLE = (
 
 def night():
     """The night of firmware/meter.c: its frames up to each map that it prints, and the lines of that map, from the model."""
-    trace, frames, maps = model.Trace(), [], []
+    trace, frames, maps = model.Trace(PLACES), [], []
 
     def ask(kind, number):
         frames.append(b"%02X%08X\n" % (kind, number))
@@ -94,7 +95,7 @@ def no_frame(rng):
 def random_trace():
     """The random trace: its frames, its requests (none for what is no frame) and the lines that the model gives for it."""
     rng = random.Random(SEED)
-    trace = model.Trace()
+    trace = model.Trace(PLACES)
     frames, requests, wanted, live, old = [], [], [], [], [4]
     for at in range(LINES):
         draw = rng.random()

@@ -17,7 +17,9 @@ import histories
 import model
 from compare import map_of  # the map of the model's heap: tests/map/compare.py
 
-FIELDS = ("words", "in_use", "committed", "peak", "high", "cached", "fresh")
+FIELDS = ("words", "in_use", "committed", "peak", "high", "fresh")
+PLACES = 1  # cache places of the calls, and of the record
+STORED = 1
 
 
 def map_shown(heap):
@@ -25,17 +27,22 @@ def map_shown(heap):
     return map_of(heap).decode().replace("\n", ",") if heap.sound() else "%d/0/0" % model.DAMAGED
 
 
+def stored(cached):
+    """The links in the record's cache places, for the model's cached chunks."""
+    return cached + [0] * (STORED - len(cached))
+
+
 def whole_state(heap):
     """The state as trace.c writes it: the door's links and words are the model's, so nothing needs naming."""
     r = heap.record
-    return "words=%d in_use=%d committed=%d peak=%d high=%d fresh=%d cached=%d sound=%d lent=%d links=%s memory=%s map=%s" % (
+    return "words=%d in_use=%d committed=%d peak=%d high=%d fresh=%d cached=%s sound=%d lent=%d links=%s memory=%s map=%s" % (
         r.words,
         r.in_use,
         r.committed,
         r.peak,
         r.high,
         r.fresh,
-        r.cached,
+        ",".join(map(str, stored(r.cached))),
         heap.sound(),
         heap.lent,
         "".join("%d/%d," % pair for pair in zip(r.prev, r.next)),
@@ -62,7 +69,7 @@ def no_frames():
     """Lines that are no frames among some that are: the input, and the lines that the model writes for it."""
     data = b"0100000001\n0000000021\n\n010000000\n01000000010\n010000000a\n0300000001\n 100000001\n0100\x00000C\n"
     data += b"X" * 200 + b"\n0100000020\n0000010000\n0100000001\n0100000001"
-    return data, model.Trace(dump=True).run(data)
+    return data, model.Trace(PLACES, dump=True).run(data)
 
 
 def largest():
@@ -71,13 +78,13 @@ def largest():
     asks = [(1, size) for size in (4 * most - 560, 100, 200, 100, 50, 20, 12, 12)]
     requests = [(0, most), *asks, (2, 4), (2, 4 * most - 552), (1, 100), (2, 4), (1, 4 * most - 600)]
     data = b"".join(b"%02X%08X\n" % request for request in requests)
-    return data, model.Trace(words=most, dump=True).run(data)
+    return data, model.Trace(PLACES, words=most, dump=True).run(data)
 
 
 def told_apart(trace, slip):
     """Whether some history tells a model with a slip from the door: if none does, comparing shows nothing."""
     for seed in range(20):
-        data, arguments, wanted = histories.random_history(seed, heap=slip)
+        data, arguments, wanted = histories.random_history(seed, PLACES, heap=slip)
         if subprocess.run([trace, *arguments], input=data, capture_output=True).stdout.decode().splitlines() != wanted:
             return True
     return False
@@ -102,6 +109,10 @@ def write(heap, name, index, value):
     elif name in ("prev", "next"):
         links = getattr(heap.record, name)
         old, links[index] = links[index], value
+    elif name == "cached":
+        links = stored(heap.record.cached)
+        old, links[index] = links[index], value
+        heap.record.cached = model.cached_of(links)
     else:
         place = heap if name == "lent" else heap.record
         old = getattr(place, name)
@@ -120,15 +131,18 @@ def any_damage(rng, heap):
         return name, index, changed(rng, getattr(heap.record, name)[index], 16)
     if draw < 0.75:
         return "lent", 0, rng.randrange(len(heap.memory))
+    if draw < 0.8:
+        index = rng.randrange(STORED)
+        return "cached", index, changed(rng, stored(heap.record.cached)[index], 16)
     name = rng.choice(FIELDS)
-    return name, 0, changed(rng, getattr(heap.record, name), 16 if name in ("cached", "fresh") else 32)
+    return name, 0, changed(rng, getattr(heap.record, name), 16 if name == "fresh" else 32)
 
 
 def damaged_history(seed, rounds=200):
     """A short history on a small heap, then damage, each undone unless the pair was sound: input, options and wanted lines, and how many requests met damage."""
     rng = random.Random(seed)
     words = rng.randrange(9, 100, 2)
-    trace = model.Trace(words=words, dump=True)
+    trace = model.Trace(PLACES, words=words, dump=True)
     data, wanted, live, refused = [b"00%08X\n" % words], list(trace.request(0, words)[1]), [4], 0
     for _ in range(rounds):
         damage = any_damage(rng, trace.heap) if rng.random() < 0.7 else None
@@ -157,10 +171,10 @@ def main(trace, count):
     data, wanted = largest()
     lines += compare(trace, "the largest heap", data, ["--words", str(model.MOST_WORDS)], wanted)
     for words in (9, 13, 17):
-        data, wanted = histories.every_history(words, (12, 20, 28), 4)
+        data, wanted = histories.every_history(words, (12, 20, 28), 4, PLACES)
         lines += compare(trace, "every history on %d words" % words, data, ["--words", str(words)], wanted)
     for seed in range(count):
-        data, arguments, wanted = histories.random_history(seed)
+        data, arguments, wanted = histories.random_history(seed, PLACES)
         lines += compare(trace, "history %d" % seed, data, arguments, wanted)
     refusals = 0
     for seed in range(count):

@@ -23,6 +23,7 @@ sys.path.insert(0, str(ROOT / "oracle"))
 import histories  # noqa: E402
 import model  # noqa: E402
 
+PLACES = 1  # cache places of the programs
 SEED = 20240201
 NO_MAP = b"050000000000000000\n"
 LINE = re.compile(rb"(1[012])([0-9A-F]{8})([0-9A-F]{8})\n")
@@ -62,7 +63,7 @@ def map_of(heap):
         return NO_MAP
     lines = []
     for chunk in heap.chunks():
-        cached = chunk.link == heap.record.cached
+        cached = chunk.link in heap.record.cached
         lines.append(b"%02X%08X%08X\n" % (0x12 if cached else 0x11 if chunk.used else 0x10, 4 * chunk.w, chunk.length))
     return b"".join(lines)
 
@@ -112,7 +113,7 @@ def compare_history(frames, rng, cuts):
     """`chart` on a history, cut at some places: its maps are the model's. Gives them."""
     lines = lines_of(frames)
     places = set(rng.sample(range(len(lines) + 1), min(cuts, len(lines)))) | {len(lines)}
-    trace, maps = model.Trace(), []
+    trace, maps = model.Trace(PLACES), []
     for place in range(len(lines) + 1):
         if place in places:
             wanted, said = map_of(trace.heap), ask("chart", b"".join(lines[:place]))
@@ -130,7 +131,7 @@ def compare_history(frames, rng, cuts):
 def check_served(heap, data):
     """The largest request that the map's sheet says is served, and the smaller ones that it says are refused, are those of the model's heap."""
     sizes = range(1, 4 * heap.record.words + 16)
-    serves = {s: heap.cache_serves(s) or heap.search(s)[0] is not None for s in {model.rounded(size) for size in sizes}}
+    serves = {s: heap.oldest_serving(s) is not None or heap.search(s)[0] is not None for s in {model.rounded(size) for size in sizes}}
     wanted = [size for size in sizes if serves[model.rounded(size)]]
     most, refused = heapmap.served(heapmap.read(data)[0])
     said = [size for size in range(1, most + 1) if refused is None or not refused[0] <= size <= refused[1]]
@@ -142,7 +143,7 @@ def check_served(heap, data):
 def served_history(seed):
     """A heap after a random history of few and often large chunks: the largest free chunk is of any class, the cached one often longer."""
     rng = random.Random(seed)
-    heap = model.Heap([0] * 601)
+    heap = model.Heap([0] * 601, PLACES)
     heap.make(rng.choice((5, 7, 9, 17, 33, 65, 127, 129, 257, 401, 601)))
     for _ in range(rng.randrange(40)):
         places = [chunk.payload for chunk in heap.chunks() if chunk.used]
@@ -282,7 +283,7 @@ def traces(rng):
     yield (ROOT / "crates/trace/stdin").read_bytes(), 60
     yield b"", 1
     for seed in range(24):
-        yield histories.random_history(SEED + seed)[0], 12
+        yield histories.random_history(SEED + seed, PLACES)[0], 12
 
 
 def most_chunks():
