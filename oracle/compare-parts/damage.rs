@@ -118,7 +118,7 @@ impl State {
         if chunk.used {
             self.words[chunk.end() / 4 - 1] = length;
             self.record.committed = self.record.committed.wrapping_sub(length);
-            if chunk.link() != self.record.cached as usize {
+            if !self.record.cached_links().contains(&(chunk.link() as u16)) {
                 self.record.in_use = self.record.in_use.wrapping_sub(length);
             }
         } else {

@@ -13,7 +13,7 @@
 
 use crate::damage::State;
 use crate::numbers::Numbers;
-use crate::port::{self, Record, Reply};
+use crate::port::{self, Kind, Record, Reply};
 use oracle::{can_make, Name, Oracle};
 
 /// The largest size that the rules serve.
@@ -338,6 +338,11 @@ impl Pair {
         self.live.len() as u32
     }
 
+    /// The port's configuration: the Rust has one cache place.
+    pub fn kind(&self) -> Kind {
+        port::ONE
+    }
+
     /// The port's record and its words.
     pub fn state(&self) -> State {
         State {
@@ -393,13 +398,15 @@ impl Pair {
             committed: self.oracle.in_use(),
             peak: self.oracle.peak(),
             high: self.oracle.high(),
-            cached: self
-                .oracle
-                .cached()
-                .map_or(0, |offset| (offset / 4 + 6) as u16),
-            fresh: self.oracle.fresh() as u16,
+            fresh: self.oracle.fresh() as _,
             ..Record::default()
         };
+        let cached = self.oracle.cached();
+        let cached: Vec<u16> = cached
+            .map(|offset| (offset / 4 + 6) as u16)
+            .into_iter()
+            .collect();
+        record.set_cached(&cached);
         for class in 0..6 {
             let (prev, next) = self.oracle.sentinel_links(class);
             record.prev[class] =

@@ -47,13 +47,29 @@ mod library {
     }
 }
 
-/// The library's calls.
+/// The library's calls with one cache place, as the Rust has it.
 pub const DOOR: Door = Door {
     make: library::lischemur_make,
     hand_out: library::lischemur_hand_out,
     take_back: library::lischemur_take_back,
     audit: library::lischemur_audit,
 };
+
+/// A configuration of the library: a number of cache places, and the calls that have them.
+#[derive(Clone, Copy)]
+pub struct Kind {
+    pub places: usize,
+    pub door: Door,
+}
+
+/// The configuration that is put beside the Rust.
+pub const ONE: Kind = Kind {
+    places: 1,
+    door: DOOR,
+};
+
+/// Every configuration. Each is put beside the rules without words.
+pub const KINDS: [Kind; 1] = [ONE];
 
 /// Make a heap of the slice, which is said to have so many words.
 pub fn make(record: &mut Record, heap: &mut [u32], words: u32) -> Reply {
@@ -68,11 +84,6 @@ pub fn hand_out(record: &mut Record, heap: &mut [u32], size: u32) -> Reply {
 /// Free the payload at an offset.
 pub fn take_back(record: &mut Record, heap: &mut [u32], payload: u32) -> Reply {
     DOOR.take_back(record, heap, payload)
-}
-
-/// Whether record and words are sound: 1 or 0.
-pub fn audit(record: &Record, heap: &[u32]) -> u32 {
-    DOOR.audit(record, heap)
 }
 
 /// The mark, or nothing if high water has not just been updated; the flag clears.
