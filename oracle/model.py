@@ -6,9 +6,9 @@ words, except which words hold links (for dumps only). docs/ORACLE.md says what 
 
 As a program it is the trace program of the rules, with the harness's options:
 
-    python3 oracle/model.py --places 1|4 [--dump] [--words N] [--fill SEED] [--marks STACKLETS] < frames
+    python3 oracle/model.py [--places 1|4] [--dump] [--words N] [--fill SEED] [--marks STACKLETS] < frames
 
-A heap has one cache place, as document 01 and the Rust have it, or four, as W-205 does; whoever starts the model says which.
+A heap has one cache place, as document 01 and the Rust have it, or four, as W-205 does: one if it is not said.
 
 Offsets are bytes from the heap's start, `w` is a word index, a link is 0 to 5 for a sentinel and
 w + 6 for the header at word w.
@@ -542,7 +542,7 @@ class Trace:
 
 def main(arguments):
     """Run the trace program on standard input."""
-    options = {}
+    options = {"places": 1}
     arguments = iter(arguments)
     for argument in arguments:
         if argument == "--dump":
@@ -551,7 +551,7 @@ def main(arguments):
             options[argument[2:]] = int(next(arguments))
         else:
             usage()
-    if options.get("places") not in (1, 4):
+    if options["places"] not in (1, 4):
         usage()
     for line in Trace(**options).run(sys.stdin.buffer.read()):
         print(line)
@@ -559,7 +559,7 @@ def main(arguments):
 
 def usage():
     """Say how the model is started, and stop."""
-    sys.exit("usage: model.py --places 1|4 [--dump] [--words N] [--fill SEED] [--marks STACKLETS] < frames")
+    sys.exit("usage: model.py [--places 1|4] [--dump] [--words N] [--fill SEED] [--marks STACKLETS] < frames")
 
 
 if __name__ == "__main__":
