@@ -28,7 +28,7 @@ DAMAGED = 20  # damaged histories, of about 400 requests each
 
 LINES = 10_000  # lines of the random trace
 FIRST = 6_000  # of these, on the largest heap
-PLACES = 1  # cache places of the calls that the image makes
+CACHE_PLACES = 1  # of the calls that the image makes, and of the record
 SEED = 20
 
 MAKE, HAND_OUT, TAKE_BACK, AUDIT = range(4)  # the audit is no frame of a trace, only a call to be counted
@@ -53,7 +53,7 @@ WHOLE = (
 
 def night():
     """The night of firmware/meter.c: its frames up to each map that it prints, and the lines of that map, from the model."""
-    trace, frames, maps = model.Trace(PLACES), [], []
+    trace, frames, maps = model.Trace(CACHE_PLACES), [], []
 
     def ask(kind, number):
         frames.append(b"%02X%08X\n" % (kind, number))
@@ -95,7 +95,7 @@ def no_frame(rng):
 def random_trace():
     """The random trace: its frames, its requests (none for what is no frame) and the lines that the model gives for it."""
     rng = random.Random(SEED)
-    trace = model.Trace(PLACES)
+    trace = model.Trace(CACHE_PLACES)
     frames, requests, wanted, live, old = [], [], [], [], [4]
     for at in range(LINES):
         draw = rng.random()
@@ -138,7 +138,7 @@ def state_line(heap):
     """The line on a state, as firmware/trace.c writes it."""
     r, total = heap.record, 2166136261
     numbers = [n for pair in zip(r.prev, r.next) for n in pair]
-    numbers += [r.words, r.in_use, r.committed, r.peak, r.high, r.cached, r.fresh, heap.lent, *heap.memory]
+    numbers += [r.words, r.in_use, r.committed, r.peak, r.high, *model.in_places(r.cached, CACHE_PLACES), r.fresh, heap.lent, *heap.memory]
     for number in numbers:
         total = (total ^ int(number)) * 16777619 % 2**32
     return "%02X%08X" % (model.DONE if heap.sound() else model.DAMAGED, total)

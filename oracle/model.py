@@ -109,6 +109,11 @@ def cached_of(links):
     return list(links[: max(used, default=0)])
 
 
+def in_places(cached, places):
+    """The links in a record's places for some cached chunks: the chunks' links, and 0 in the places that are left."""
+    return cached + [0] * (places - len(cached))
+
+
 def accepted(words):
     """Whether a heap may have so many words."""
     return LEAST_WORDS <= words <= MOST_WORDS and words % 2 == 1

@@ -27,11 +27,6 @@ def map_shown(heap):
     return map_of(heap).decode().replace("\n", ",") if heap.sound() else "%d/0/0" % model.DAMAGED
 
 
-def stored(cached):
-    """The links in the record's cache places, for the model's cached chunks."""
-    return cached + [0] * (STORED - len(cached))
-
-
 def whole_state(heap):
     """The state as trace.c writes it: the door's links and words are the model's, so nothing needs naming."""
     r = heap.record
@@ -42,7 +37,7 @@ def whole_state(heap):
         r.peak,
         r.high,
         r.fresh,
-        ",".join(map(str, stored(r.cached))),
+        ",".join(map(str, model.in_places(r.cached, STORED))),
         heap.sound(),
         heap.lent,
         "".join("%d/%d," % pair for pair in zip(r.prev, r.next)),
@@ -110,7 +105,7 @@ def write(heap, name, index, value):
         links = getattr(heap.record, name)
         old, links[index] = links[index], value
     elif name == "cached":
-        links = stored(heap.record.cached)
+        links = model.in_places(heap.record.cached, STORED)
         old, links[index] = links[index], value
         heap.record.cached = model.cached_of(links)
     else:
@@ -133,7 +128,7 @@ def any_damage(rng, heap):
         return "lent", 0, rng.randrange(len(heap.memory))
     if draw < 0.8:
         index = rng.randrange(STORED)
-        return "cached", index, changed(rng, stored(heap.record.cached)[index], 16)
+        return "cached", index, changed(rng, model.in_places(heap.record.cached, STORED)[index], 16)
     name = rng.choice(FIELDS)
     return name, 0, changed(rng, getattr(heap.record, name), 16 if name == "fresh" else 32)
 
