@@ -27,7 +27,7 @@
  * out otherwise.
  *
  * What the library calls and does not have, since every C program for the processor is linked with it (-lc -lgcc, say):
- *   x86-64     memset
+ *   64 bits    memset, on x86-64 and on 64-bit Arm
  *   Cortex-M   __aeabi_memcpy, __aeabi_memclr4 and __aeabi_memclr8; for the map __aeabi_uldivmod; on a Cortex-M0+ also
  *              __aeabi_lmul and __clzsi2
  *   RISC-V     memcpy and memset; for the map __udivdi3
@@ -70,16 +70,17 @@ extern "C" {
 #define LISCHEMUR_VERSION "0.3.0"
 #define LISCHEMUR_LAYOUT 3
 
-/* How the library's names end on a microcontroller: in the architecture that it is compiled for (meter/parts has the list). */
-#if defined(__ARM_ARCH_6M__)
+/* How the library's names end on a microcontroller: in the architecture that it is compiled for (meter/parts has the list). The compiler
+   says it by the macros that Arm and RISC-V set down for C. */
+#if defined(__ARM_ARCH_PROFILE) && __ARM_ARCH_PROFILE == 'M' && __ARM_ARCH == 6
 #define LISCHEMUR_PART _for_armv6m
-#elif defined(__ARM_ARCH_7M__)
-#define LISCHEMUR_PART _for_armv7m
-#elif defined(__ARM_ARCH_7EM__)
+#elif defined(__ARM_ARCH_PROFILE) && __ARM_ARCH_PROFILE == 'M' && __ARM_ARCH == 7 && defined(__ARM_FEATURE_DSP)
 #define LISCHEMUR_PART _for_armv7em
-#elif defined(__ARM_ARCH_8M_MAIN__)
+#elif defined(__ARM_ARCH_PROFILE) && __ARM_ARCH_PROFILE == 'M' && __ARM_ARCH == 7
+#define LISCHEMUR_PART _for_armv7m
+#elif defined(__ARM_ARCH_PROFILE) && __ARM_ARCH_PROFILE == 'M' && __ARM_ARCH_ISA_THUMB == 2
 #define LISCHEMUR_PART _for_armv8m_main
-#elif defined(__arm__)
+#elif defined(__arm__) || defined(__ICCARM__)
 #define LISCHEMUR_PART _for_other_arm
 #elif defined(__riscv) && __riscv_xlen == 32 && defined(__riscv_compressed) && defined(__riscv_div) && defined(__riscv_atomic)
 #define LISCHEMUR_PART _for_rv32imac
@@ -111,12 +112,15 @@ extern "C" {
 #define LISCHEMUR_MOST_SIZE UINT32_C(4294967284)
 
 /*
- * How large a heap has to be. A payload takes a chunk of LISCHEMUR_CHUNK(size) bytes, or of 8 more if those would be left over. A search for less
- * than 512 bytes looks only at chunks of at least the next power of two, so the free chunk that serves a size has LISCHEMUR_SERVES(size) bytes or
- * more, and 3, no fit, is replied though a shorter one would hold the payload: a just-made heap of 127 words is one free chunk of 504 bytes and
- * refuses 245 bytes, which would take 256 of them, since 512 are looked for. A just-made heap of LISCHEMUR_WORDS(count, size) words, and none of
- * fewer, serves `count` handouts of `size` bytes each before any is taken back. For constants, as in LISCHEMUR_MEMORY(LISCHEMUR_WORDS(20, 48)): an
- * argument is evaluated more than once. `size` is from 1 to 262,108, the most that the largest heap serves.
+ * How large a heap has to be. A payload takes a chunk of LISCHEMUR_CHUNK(size) bytes: 8 more if those would be left over, up
+ * to 512 more if the cached chunk serves it. A search for less than 512 bytes looks only at chunks of at least the next power
+ * of two, so the free chunk that serves a size has LISCHEMUR_SERVES(size) bytes or more, and 3, no fit, is replied though a
+ * shorter one would hold the payload: a just-made heap of 127 words is one free chunk of 504 bytes and refuses 245 bytes,
+ * which would take 256 of them, since 512 are looked for. A just-made heap of LISCHEMUR_WORDS(count, size) words, and none of
+ * fewer, serves `count` handouts of `size` bytes each before any is taken back.
+ *
+ * For constants, as in LISCHEMUR_MEMORY(LISCHEMUR_WORDS(20, 48)): an argument is evaluated more than once. `size` is from 1
+ * to 262,108, the most that the largest heap serves.
  */
 #define LISCHEMUR_CHUNK(size) ((size) <= 12 ? UINT32_C(16) : ((size) + UINT32_C(11)) / 8 * 8)
 #define LISCHEMUR_SERVES(size)                                                                         \

@@ -150,7 +150,7 @@ def damage_line(name, index, number):
 
 
 def damaged(histories=DAMAGED, rounds=200):
-    """Damaged histories of so many rounds: their lines, the lines that the model gives for them, and how many requests met damage."""
+    """Damaged histories of that many rounds: their lines, the lines that the model gives for them, and how many requests met damage."""
     spec = importlib.util.spec_from_file_location("tests_c_compare", os.path.join(ROOT, "tests", "c", "compare.py"))
     compare = importlib.util.module_from_spec(spec)
     spec.loader.exec_module(compare)

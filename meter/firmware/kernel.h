@@ -38,7 +38,7 @@ struct figures kernel_figures(void);
 struct answer kernel_map(char *room, uint32_t bytes);
 
 /* write a number over a field of the record, a word, or the count of words that is lent, as PLACES of meter/traces.py names them; 0 if there is
- * no such place. The last of them begins anew: as at power-on, and the sum goes over so many words. */
+ * no such place. The last of them begins anew: as at power-on, and the sum goes over that many words. */
 int kernel_damage(uint32_t place, uint32_t index, uint32_t number);
 /* a sum over each field of the record, the count of words lent, and the words */
 uint32_t kernel_sum(void);

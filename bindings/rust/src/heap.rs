@@ -20,7 +20,7 @@ const NOWHERE: Offset = Offset(0);
 /// The bytes of a map's line.
 pub const MAP_LINE: usize = 19;
 
-/// The bytes of room that suffices for the map of any heap of so many words.
+/// The bytes of room that suffices for the map of any heap of that many words.
 pub const fn map_room(words: usize) -> usize {
     words.saturating_sub(1) / 4 * MAP_LINE
 }

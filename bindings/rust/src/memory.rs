@@ -12,7 +12,7 @@ pub const LEAST_WORDS: usize = 5;
 /// The most words that a heap can have.
 pub const MOST_WORDS: usize = 65_529;
 
-/// Whether a heap can have so many words: an odd count, 5 to 65,529.
+/// Whether a heap can have that many words: an odd count, 5 to 65,529.
 pub const fn accepted(words: usize) -> bool {
     LEAST_WORDS <= words && words <= MOST_WORDS && words % 2 == 1
 }

@@ -65,7 +65,7 @@ impl fmt::Display for Refusal {
             Refusal::NoFit => out.write_str("no free chunk is large enough"),
             Refusal::NotLive => out.write_str("no live payload starts there"),
             Refusal::Damaged => out.write_str("the heap is damaged"),
-            Refusal::BadLength => out.write_str("a heap cannot have so many words"),
+            Refusal::BadLength => out.write_str("a heap cannot have that many words"),
             Refusal::NoRoom => out.write_str("the map is longer than the room"),
             Refusal::Unknown(number) => write!(out, "answer number {number} is unknown"),
         }

@@ -8,11 +8,14 @@
 // The names end in the number of the layout that record, reply and marking have, so that a program with another layout does not link. The
 // header calls them by their plain names (`lischemur_make`). tests/c/layout holds the number to the layout; its --next renames.
 //
+// The calls of a heap with one cache place are twins of four of them (`lischemur_one_..`); making, the mark and the readers serve both kinds.
+//
 //     reply    an answer as document 01's three numbers
 //     plain    the calls by value that the doors go to
 ghost use mathlib.Core.Path.{_≡_};
 ghost use Rattle.words.specs.Choice.{bit};
 ghost use Rattle.rules.specs.Demands.{hand, back};
+ghost use Rattle.rules.specs.Kind.{one, four};
 ghost use Rattle.heap.specs.Seen.{seen, base};
 ghost use Rattle.heap.specs.Mark.{markOf};
 ghost use Rattle.heap.specs.Answer.{soundAt};
@@ -22,9 +25,12 @@ ghost use Rattle.door.specs.Reply.{replied, markingBy, makeOver};
 mod plain;
 mod reply;
 
+use heap::Kind;
 use heap::Record;
+use plain::hand_out_one;
 use plain::hand_out_plain;
 use plain::make_over;
+use plain::take_back_one;
 use plain::take_back_plain;
 pub use reply::Marking;
 pub use reply::Replied;
@@ -53,7 +59,7 @@ pub extern "C" fn lischemur_hand_out_needs_library_of_layout_3(
     heap: &mut [u32],
     size: u32,
 ) -> Reply
-    ensures { λ r. ⌜ replied r (seen (now (rec .exit)) (now (heap .exit))) ≡ hand base 65529 1 (seen (now (rec .entry)) (now (heap .entry))) size ⌝ }
+    ensures { λ r. ⌜ replied r (seen (now (rec .exit)) (now (heap .exit))) ≡ hand base 65529 (four .places) (seen (now (rec .entry)) (now (heap .entry))) size ⌝ }
 {
     let out = hand_out_plain(*rec, heap, size);
     *rec = out.rec;
@@ -67,7 +73,7 @@ pub extern "C" fn lischemur_take_back_needs_library_of_layout_3(
     heap: &mut [u32],
     payload: u32,
 ) -> Reply
-    ensures { λ r. ⌜ replied r (seen (now (rec .exit)) (now (heap .exit))) ≡ back base 65529 1 (seen (now (rec .entry)) (now (heap .entry))) payload ⌝ }
+    ensures { λ r. ⌜ replied r (seen (now (rec .exit)) (now (heap .exit))) ≡ back base 65529 (four .places) (seen (now (rec .entry)) (now (heap .entry))) payload ⌝ }
 {
     let out = take_back_plain(*rec, heap, payload);
     *rec = out.rec;
@@ -77,9 +83,9 @@ pub extern "C" fn lischemur_take_back_needs_library_of_layout_3(
 // Whether the record and these words are sound: 1 or 0.
 #[no_mangle]
 pub extern "C" fn lischemur_audit_needs_library_of_layout_3(rec: Record, heap: &[u32]) -> u32
-    ensures { λ r. ⌜ r ≡ bit (soundAt (seen rec (now (heap .entry)))) ⌝ }
+    ensures { λ r. ⌜ r ≡ bit (soundAt (four .places) (seen rec (now (heap .entry)))) ⌝ }
 {
-    let sound = rec.audit(heap);
+    let sound = rec.audit(heap, Kind::Four);
     if sound { 1 } else { 0 }
 }
 
@@ -91,9 +97,9 @@ pub extern "C" fn lischemur_write_map_needs_library_of_layout_3(
     heap: &[u32],
     room: &mut [u8],
 ) -> Reply
-    ensures { λ r. ⌜ replied r (now (room .exit)) ≡ written (seen rec (now (heap .entry))) (now (room .entry)) ⌝ }
+    ensures { λ r. ⌜ replied r (now (room .exit)) ≡ written (four .places) (seen rec (now (heap .entry))) (now (room .entry)) ⌝ }
 {
-    let answer = map::write_map(rec, heap, room);
+    let answer = map::write_map(rec, heap, room, Kind::Four);
     map_reply(answer)
 }
 
@@ -115,7 +121,7 @@ pub extern "C" fn lischemur_in_use_needs_library_of_layout_3(rec: Record) -> u32
     rec.in_use()
 }
 
-// Bytes committed: those in use, and those of the cached chunk.
+// Bytes committed: those in use, and those of the cached chunks.
 #[no_mangle]
 pub extern "C" fn lischemur_committed_needs_library_of_layout_3(rec: Record) -> u32
     ensures { λ r. ⌜ r ≡ rec .committed ⌝ }
@@ -137,4 +143,54 @@ pub extern "C" fn lischemur_high_water_needs_library_of_layout_3(rec: Record) ->
     ensures { λ r. ⌜ r ≡ rec .high ⌝ }
 {
     rec.high_water()
+}
+
+// ONE CACHE PLACE. Hands out a payload of at least `size` bytes.
+#[no_mangle]
+pub extern "C" fn lischemur_one_hand_out_needs_library_of_layout_3(
+    rec: &mut Record,
+    heap: &mut [u32],
+    size: u32,
+) -> Reply
+    ensures { λ r. ⌜ replied r (seen (now (rec .exit)) (now (heap .exit))) ≡ hand base 65529 (one .places) (seen (now (rec .entry)) (now (heap .entry))) size ⌝ }
+{
+    let out = hand_out_one(*rec, heap, size);
+    *rec = out.rec;
+    out.reply
+}
+
+// Takes back the payload that begins at this offset, with one cache place.
+#[no_mangle]
+pub extern "C" fn lischemur_one_take_back_needs_library_of_layout_3(
+    rec: &mut Record,
+    heap: &mut [u32],
+    payload: u32,
+) -> Reply
+    ensures { λ r. ⌜ replied r (seen (now (rec .exit)) (now (heap .exit))) ≡ back base 65529 (one .places) (seen (now (rec .entry)) (now (heap .entry))) payload ⌝ }
+{
+    let out = take_back_one(*rec, heap, payload);
+    *rec = out.rec;
+    out.reply
+}
+
+// Whether the record and these words are sound with one cache place: 1 or 0.
+#[no_mangle]
+pub extern "C" fn lischemur_one_audit_needs_library_of_layout_3(rec: Record, heap: &[u32]) -> u32
+    ensures { λ r. ⌜ r ≡ bit (soundAt (one .places) (seen rec (now (heap .entry)))) ⌝ }
+{
+    let sound = rec.audit(heap, Kind::One);
+    if sound { 1 } else { 0 }
+}
+
+// Writes the map of a heap with one cache place.
+#[no_mangle]
+pub extern "C" fn lischemur_one_write_map_needs_library_of_layout_3(
+    rec: Record,
+    heap: &[u32],
+    room: &mut [u8],
+) -> Reply
+    ensures { λ r. ⌜ replied r (now (room .exit)) ≡ written (one .places) (seen rec (now (heap .entry))) (now (room .entry)) ⌝ }
+{
+    let answer = map::write_map(rec, heap, room, Kind::One);
+    map_reply(answer)
 }

@@ -19,7 +19,7 @@ use Rattle.words.proofs.Laws.Numbers.{numbers-at, numbers-set}
 use Rattle.words.specs.Sizes.{classOf, startOf}
 use Rattle.rules.specs.Steps.{portion, unlink, link, setLeft, clearLeft, markFree, markUsed, returnExcess, takeChunk, leftFree, rightFree, merge, merged, releaseChunk, cleared, emptied}
 use Rattle.rules.specs.Search.{searchAll}
-use Rattle.rules.specs.Rules.{firstFit}
+use Rattle.rules.proofs.Follow.{walkedFit}
 use Rattle.rules.specs.Making.{State}
 use Rattle.heap.specs.declared.record.Record.{Record}
 use Rattle.heap.specs.Seen.{seen, base, withPrevs, withNexts, stored}
@@ -213,11 +213,11 @@ release-by r a q ws ws1 ws2 x n g h eg ea eq =
     let listed : seen q ws2 ≡ freeListed (seen a ws1) (w - f / 4) (f + (n + e)) = rw plain at eq in
     listed ∙ merged-by (seen r ws) (seen a ws1) w f n e off ∙ released-between r ws w n
 
--- SEARCHING: the rules' first fit on a record and its words
-pub first-fit-is : (sound : State → Bool) (r : Record) (ws : List ℕ) (z : ℕ)
-    → firstFit base 1 sound (seen r ws) z ≡ searchAll (walkIn (numbers (r .next)) ws z (length ws / 4)) (6 - startOf z) (startOf z) 0
-unfolding firstFit walkIn
-first-fit-is sound r ws z = refl
+-- SEARCHING as the code walks, on a record and its words
+pub first-fit-is : (r : Record) (ws : List ℕ) (z : ℕ)
+    → walkedFit base (seen r ws) z ≡ searchAll (walkIn (numbers (r .next)) ws z (length ws / 4)) (6 - startOf z) (startOf z) 0
+unfolding walkedFit walkIn
+first-fit-is r ws z = refl
 
 -- EMPTYING, on record and words
 cleared-seen : (r : Record) (ws : List ℕ) (i k : ℕ) → seen r (clearedIn ws i k) ≡ cleared base (seen r ws) i k

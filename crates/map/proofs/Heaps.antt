@@ -17,11 +17,11 @@ use Rattle.words.specs.Choice.{pick, bit}
 use Rattle.rules.specs.Chunks.{Chunk, total, Legal, Calm}
 use Rattle.rules.specs.Ops.{Ops}
 use Rattle.rules.specs.Lists.{Mem}
-use Rattle.rules.specs.Place.{usedAt}
+use Rattle.rules.specs.Place.{usedAt, tile}
 use Rattle.rules.specs.Rules.{Figures, byteOf, nameOf, listed}
 use Rattle.rules.specs.Machine.{Model}
 use Rattle.rules.specs.Sound.{Accepted, CacheRight, Shows}
-use Rattle.rules.specs.Test.{tile, candidate}
+use Rattle.rules.specs.Test.{candidate}
 use Rattle.rules.proofs.Store.{Edition}
 use Rattle.rules.proofs.Follow.{listed-true, listed-false}
 use Rattle.rules.proofs.Decide.{shows-candidate, layout-unique}

@@ -12,7 +12,8 @@ use Prim.Native.Nat.{ℕ, _+_, _-_, _*_, _/_, _%_, _≤_, _<_}
 use native.Mathlib.Omega.{arith}
 use lib.Dec.{eqb}
 use lib.ListN.{length}
-use Rattle.rules.specs.Chunks.{total, Legal, Calm, usedHead, either}
+use Rattle.rules.specs.Chunks.{total, Legal, Calm, usedHead}
+use Rattle.rules.specs.Test.{either}
 use Rattle.rules.specs.Test.{both}
 use Rattle.rules.proofs.Calls.{total-8}
 use Rattle.map.specs.declared.rows.Row.{Row}

@@ -6,7 +6,7 @@ use lib.ListN.{length}
 use Rattle.words.specs.Choice.{pick}
 use Rattle.words.specs.Tags.{at, lengthOf, freeᵇ}
 use Rattle.rules.specs.Chunks.{Chunk, total}
-use Rattle.rules.specs.Test.{tile}
+use Rattle.rules.specs.Place.{tile}
 
 -- the chunks of the words, as the headers give them
 unfoldable pub chunksIn : List ℕ → List Chunk

@@ -15,12 +15,12 @@ use Rattle.rules.specs.Steps.{portion, lengthAt, takeChunk, emptied}
 use Rattle.rules.specs.Chunks.{Chunk, free, busy, total, Legal}
 use Rattle.rules.specs.Exact.{slot}
 use Rattle.rules.specs.Search.{Found, at, nowhere, lost}
-use Rattle.rules.specs.Place.{lenAt, usedAt}
+use Rattle.rules.specs.Place.{UsedAt, lenAt, usedAt}
 use Rattle.rules.specs.Rules.{Figures, Outcome, says, byteOf, nameOf, Chosen, none, one, choose, counted, fromList, fromCache, serve, handOut}
 use Rattle.rules.specs.Machine.{Model, sizeM, tookM, searched, searchM, fromListM, fromCacheM, handOutM}
 use Rattle.rules.specs.Sound.{Shows}
 use Rattle.rules.specs.Test.{soundᵇ}
-use Rattle.rules.specs.Demands.{LiveAt, InPayload, hand}
+use Rattle.rules.specs.Demands.{LiveAt, Holds, hand}
 use Rattle.rules.proofs.Store.{Edition}
 use Rattle.rules.proofs.Chunks.{total-append}
 use Rattle.rules.proofs.Emptying.{emptied-in}
@@ -40,37 +40,30 @@ module _ {S : Type 0} {op : Ops S Figures} {most places : ℕ} (E : Edition op m
 
   -- at p the model m has a live payload, and in the state t its words are 0
   abbrev Arrived : S → Model → ℕ → Type 0
-  Arrived t m p = LiveAt m p × ((i : ℕ) → InPayload m p i → op .word t i ≡ 0)
+  Arrived t m p = (n : ℕ) × LiveAt m p n × ((i : ℕ) → Holds p n i → op .word t i ≡ 0)
 
   -- an emptied chunk that is not cached
   emptied-arrives : (t : S) (m : Model) → Sh t m → (x k : ℕ) → 6 ≤ x → usedAt (m .cs) (byteOf x) ≡ k → 0 < k → (Mem x (m .figs .cached) → ⊥)
       → Arrived (emptied op t (x - 6) k) m (byteOf x + 4)
-  emptied-arrives t m h x k x6 e pos out = (
-    let u = used-at (m .cs) (byteOf x) (omega arith) in
-        let b : (x - 6) * 4 ≡ total (u .pre) = u .byte in
-        record {
-          pre = u .pre;
-          size = usedAt (m .cs) (byteOf x);
-          post = u .post;
-          is = u .is;
-          begins = omega arith;
-          cold = λ q. out (subst (λ (y : ℕ). Mem y (m .figs .cached)) (let r : nameOf (total (u .pre)) ≡ x = omega arith in r) q);
-        },
-    zero,
-  )
+  emptied-arrives t m h x k x6 e pos out =
+      let b : byteOf x + 4 - 4 ≡ byteOf x = omega arith in
+      let u = used-at (m .cs) (byteOf x) (omega arith) in
+      let x′ : nameOf (byteOf x + 4 - 4) ≡ x = omega arith in (
+        k,
+        (omega arith, rw b (subst (UsedAt (m .cs) (byteOf x)) e u), λ q. out (subst (λ (y : ℕ). Mem y (m .figs .cached)) x′ q)),
+        zero,
+      )
     where
-      zero : (i : ℕ) → InPayload m (byteOf x + 4) i → op .word (emptied op t (x - 6) k) i ≡ 0
+      zero : (i : ℕ) → Holds (byteOf x + 4) k i → op .word (emptied op t (x - 6) k) i ≡ 0
       zero i p =
-          let l = subst Legal (p .is) (h .legal) in
-          let lp = legal-front (p .pre) (busy (p .size) ∷ p .post) l in
-          let g = p .begins in
-          let b : byteOf x ≡ total (p .pre) = omega arith in
-          let n : k ≡ p .size = sym e ∙ ap (usedAt (m .cs)) b ∙ ap (λ cs. usedAt cs (total (p .pre))) (p .is) ∙ used-there (p .pre) (p .size) (p .post) lp in
-          let f : total (p .pre ++ busy (p .size) ∷ p .post) ≡ 4 * (op .count t - 1) = sym (ap total (p .is)) ∙ h .fills in
-          let a = total-append (p .pre) (busy (p .size) ∷ p .post) in
+          let u = used-at (m .cs) (byteOf x) (omega arith) in
+          let n = usedAt (m .cs) (byteOf x) in
+          let g = u .byte in
+          let f : total (u .pre ++ busy n ∷ u .post) ≡ 4 * (op .count t - 1) = sym (ap total (u .is)) ∙ h .fills in
+          let a = total-append (u .pre) (busy n ∷ u .post) in
           let y = bytes E t m h in
-          let lo = p .low in
-          let hi = p .high in
+          let lo = p .0 in
+          let hi = p .1 in
           emptied-in (L E t m h) t (x - 6) k i (whole E t m h .rings .good) (L E t m h .inw i (omega arith)) (omega arith) (omega arith)
 
   took-arrives : (s : S) (pre : List Chunk) (n : ℕ) (post : List Chunk) (O : ℕ → List ℕ) (f : Figures) (x z : ℕ) → 16 ≤ z → z % 8 ≡ 0 → x ≡ (0 + total pre) / 4 + 6
@@ -91,14 +84,11 @@ module _ {S : Type 0} {op : Ops S Figures} {most places : ℕ} (E : Edition op m
       (λ q. let u = h .cache .used x q .1 in let v = ap (usedAt (pre ++ free n ∷ post)) b ∙ free-there pre n post lp in omega arith)
 
   module _ (s : S) (m : Model) (h : Sh s m) where
-    abbrev sound : S → Bool
-    sound = soundᵇ op most places
-
     -- what is served, arrives
     abbrev Served : Outcome S → Outcome Model → Type 0
     Served o q = o .number ≡ 0 → Arrived (o .after) (q .after) (o .value)
 
-    listed-arrives : (z : ℕ) → 16 ≤ z → z % 8 ≡ 0 → (r : Found) → Fits (sizeM m) z (searched m z) r → Served (fromList op places sound s z r) (fromListM m z r)
+    listed-arrives : (z : ℕ) → 16 ≤ z → z % 8 ≡ 0 → (r : Found) → Fits (sizeM m) z (searched m z) r → Served (fromList op s z r) (fromListM m z r)
     unfolding fromList
     listed-arrives z z16 z8 (nowhere c) f = λ q. absurd (let u : _≡_ {A = ℕ} 3 0 = q in omega arith)
     listed-arrives z z16 z8 lost f = absurd f
@@ -112,25 +102,25 @@ module _ {S : Type 0} {op : Ops S Figures} {most places : ℕ} (E : Edition op m
         (tookM (record { cs = cs; orders = m .orders; figs = m .figs }) x (lenAt cs (byteOf x)) z) (byteOf x + 4))
         (sym (g .is)) (λ w. took-arrives s (g .pre) (r .0) (g .post) (m .orders) (m .figs) x z z16 z8 (g .named) w) h
 
-    serve-arrives : (z : ℕ) → 16 ≤ z → z % 8 ≡ 0 → Served (serve op places sound s z) (fromCacheM m z (choose (sizeM m) z (m .figs .cached)))
+    serve-arrives : (z : ℕ) → 16 ≤ z → z % 8 ≡ 0 → Served (serve op s z) (fromCacheM m z (choose (sizeM m) z (m .figs .cached)))
     unfolding serve fromCache
     serve-arrives z z16 z8 = rw (choose-cached E s m h z) (go (choose (sizeM m) z (m .figs .cached)) (choose-picked (sizeM m) z (m .figs .cached)))
       where
-        go : (c : Chosen) → Picked (sizeM m) z (m .figs .cached) c → Served (fromCache op places sound s z c) (fromCacheM m z c)
+        go : (c : Chosen) → Picked (sizeM m) z (m .figs .cached) c → Served (fromCache op s z c) (fromCacheM m z c)
         go (one x ks) p = λ q.
             let u = h .cache .used x (p .1) in
             let up = u .1 in
             let y = used-size E s m h x (u .0) (u .1) in
             let d = p .3 (h .cache .once) in
             emptied-arrives _ _ (uncached E s m h z x ks p) x (lengthAt op s x) (u .0) (sym y) (omega arith) (d .0)
-        go none p = rw (search-same E s m h sound z) (listed-arrives z z16 z8 (searchM m z) (find-fits (sizeM m) z (searched m z) 0))
+        go none p = rw (search-same E s m h z) (listed-arrives z z16 z8 (searchM m z) (find-fits (sizeM m) z (searched m z) 0))
 
     hand-arrives : (size : ℕ) → Served (hand op most places s size) (handOutM m size)
     unfolding handOut handOutM
     hand-arrives size = rw (true-sound E s (m, h)) (go (eqb size 0) (ltb 4294967284 size))
       where
         go : (a b : Bool)
-            → Served (pick a (says 1 0 0 s) (pick b (says 2 0 0 s) (serve op places sound s (roundedOf size))))
+            → Served (pick a (says 1 0 0 s) (pick b (says 2 0 0 s) (serve op s (roundedOf size))))
             (pick a (says 1 0 0 m) (pick b (says 2 0 0 m) (fromCacheM m (roundedOf size) (choose (sizeM m) (roundedOf size) (m .figs .cached)))))
         go true b = λ q. absurd (let u : _≡_ {A = ℕ} 1 0 = q in omega arith)
         go false true = λ q. absurd (let u : _≡_ {A = ℕ} 2 0 = q in omega arith)
@@ -143,19 +133,22 @@ module _ {S : Type 0} {op : Ops S Figures} {most places : ℕ} (E : Edition op m
       (λ e q. absurd (let u : _≡_ {A = ℕ} 1 0 = q in omega arith)) (λ e q. absurd (let u : _≡_ {A = ℕ} 2 0 = q in omega arith))
       (λ a b e q. absurd (let u : _≡_ {A = ℕ} 5 0 = q in omega arith)) (λ a b e q. e)
 
-  -- two models with one layout
-  in-same : (m n : Model) (p i : ℕ) → m .cs ≡ n .cs → InPayload m p i → InPayload n p i
-  in-same m n p i c a = record { pre = a .pre; size = a .size; post = a .post; is = sym c ∙ a .is; begins = a .begins; low = a .low; high = a .high }
+  -- two models with one layout and the same figures
+  live-same : (m n : Model) (p k : ℕ) → m .cs ≡ n .cs → m .figs ≡ n .figs → LiveAt m p k → LiveAt n p k
+  live-same m n p k c f a = (
+    a .0,
+    subst (λ cs. UsedAt cs (p - 4) k) c (a .1),
+    λ q. a .2 (subst (λ (g : Figures). Mem (nameOf (p - 4)) (g .cached)) (sym f) q),
+  )
 
-  live-same : (m n : Model) (p : ℕ) → m .cs ≡ n .cs → m .figs ≡ n .figs → LiveAt m p → LiveAt n p
-  live-same m n p c f a = record {
-    pre = a .pre;
-    size = a .size;
-    post = a .post;
-    is = sym c ∙ a .is;
-    begins = a .begins;
-    cold = λ q. a .cold (subst (λ (g : Figures). Mem (nameOf (total (a .pre))) (g .cached)) (sym f) q);
-  }
+  -- one chunk begins at a byte
+  long-same : (m : Model) → Legal (m .cs) → (p k n : ℕ) → LiveAt m p k → LiveAt m p n → k ≡ n
+  long-same m l p k n a b = sym (long k (a .1)) ∙ long n (b .1)
+    where
+      long : (z : ℕ) → UsedAt (m .cs) (p - 4) z → usedAt (m .cs) (p - 4) ≡ z
+      long z u =
+          ap (usedAt (m .cs)) (u .byte) ∙ ap (λ cs. usedAt cs (total (u .pre))) (u .is)
+          ∙ used-there (u .pre) z (u .post) (legal-front (u .pre) (busy z ∷ u .post) (subst Legal (u .is) l))
 
   -- PAYLOADS ARRIVE EMPTY
   pub arrives-empty : (s : S) (m : Model) (size : ℕ) → hand op most places s size .number ≡ 0 → Sh (hand op most places s size .after) m
@@ -166,15 +159,24 @@ module _ {S : Type 0} {op : Ops S Figures} {most places : ℕ} (E : Edition op m
       let g = hand-follows E s (w .0) (w .1) size .after in
       let a = hand-arrives s (w .0) (w .1) size z in
       let c = layout-unique E (hand op most places s size .after) n m g h in
-      (live-same n m _ c (figures-unique E (hand op most places s size .after) n m g h) (a .0), λ i p. a .1 i (in-same m n _ i (sym c) p))
+      (a .0, live-same n m _ (a .0) c (figures-unique E (hand op most places s size .after) n m g h) (a .1), a .2)
 
   -- AND ALIKE
-  pub alike-at-handout : (s t : S) (m n : Model) (size : ℕ) → Sh s m → Sh t m → hand op most places s size .number ≡ 0 → Sh (hand op most places s size .after) n
-      → (i : ℕ) → InPayload n (hand op most places s size .value) i → op .word (hand op most places s size .after) i ≡ op .word (hand op most places t size .after) i
-  alike-at-handout s t m n size hs ht z hn i p =
+  pub alike-at-handout : (s t : S) (m k : Model) (size : ℕ) → Sh s m → Sh t m → hand op most places s size .number ≡ 0
+      → Sh (hand op most places s size .after) k
+      → (n i : ℕ) → LiveAt k (hand op most places s size .value) n → Holds (hand op most places s size .value) n i
+      → op .word (hand op most places s size .after) i ≡ op .word (hand op most places t size .after) i
+  alike-at-handout s t m k size hs ht z hk n i l p =
       let a = hand-follows E s m hs size in
       let b = hand-follows E t m ht size in
-      let k : Model = handOutM m size .after in
+      let w : Model = handOutM m size .after in
       let v : hand op most places s size .value ≡ hand op most places t size .value = a .value ∙ sym (b .value) in
-      let q = subst (λ (x : ℕ). InPayload k x i) v (in-same n k _ i (layout-unique E (hand op most places s size .after) n k hn (a .after)) p) in
-      arrives-empty s n size z hn .1 i p ∙ sym (arrives-empty t k size (b .number ∙ sym (a .number) ∙ z) (b .after) .1 i q)
+      let x = arrives-empty s k size z hk in
+      let y = arrives-empty t w size (b .number ∙ sym (a .number) ∙ z) (b .after) in
+      let c = layout-unique E (hand op most places s size .after) k w hk (a .after) in
+      let g = figures-unique E (hand op most places s size .after) k w hk (a .after) in
+      let nx = long-same k (hk .legal) (hand op most places s size .value) n (x .0) l (x .1) in
+      let lw = subst (λ (q : ℕ). LiveAt w q n) v (live-same k w (hand op most places s size .value) n c g l) in
+      let ny = long-same w (a .after .legal) (hand op most places t size .value) n (y .0) lw (y .1) in
+      x .2 i (subst (λ (q : ℕ). Holds (hand op most places s size .value) q i) nx p)
+      ∙ sym (y .2 i (subst (λ (q : ℕ). Holds q (y .0) i) v (subst (λ (q : ℕ). Holds (hand op most places s size .value) q i) ny p)))

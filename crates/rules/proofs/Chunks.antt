@@ -8,7 +8,8 @@ use native.Mathlib.Omega.{arith}
 use lib.Dec.{leb}
 use lib.ListN.{length, getD}
 use Rattle.words.specs.Choice.{pick}
-use Rattle.rules.specs.Chunks.{Calm, Chunk, Legal, busy, cut, either, free, join, release, taken, total, usedHead}
+use Rattle.rules.specs.Chunks.{Calm, Chunk, Legal, busy, cut, free, join, release, taken, total, usedHead}
+use Rattle.rules.specs.Test.{either}
 
 pub join-calm : (c : Chunk) (cs : List Chunk) → Calm cs → Calm (join c cs)
 unfolding join

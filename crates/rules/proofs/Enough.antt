@@ -25,7 +25,7 @@ use Rattle.rules.specs.Tags.{Tags}
 use Rattle.rules.proofs.Part.{legal-front, legal-back}
 use Rattle.rules.proofs.Calls.{Whole, total-8}
 use Rattle.rules.proofs.Place.{free-at, header-len, header-used}
-use Rattle.rules.specs.Test.{tile}
+use Rattle.rules.specs.Place.{tile}
 
 -- a ring that does not pass its sentinel has each node once: no test
 pub seg-distinct : (nx pv : ℕ → ℕ) (k : ℕ) (xs : List ℕ) (a : ℕ) → (Mem k xs → ⊥) → Seg nx pv a xs k → Distinct xs

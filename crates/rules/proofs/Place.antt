@@ -15,7 +15,7 @@ use Rattle.words.specs.Choice.{pick, bit}
 use Rattle.rules.specs.Chunks.{Chunk, free, busy, total, Legal}
 use Rattle.rules.specs.Exact.{Slot, slot, In, frees}
 use Rattle.rules.specs.Tags.{Tags}
-use Rattle.rules.specs.Place.{indexAt, lenAt, usedAt, usedWalk}
+use Rattle.rules.specs.Place.{UsedAt, indexAt, lenAt, usedAt, tile, usedWalk}
 
 -- a free chunk, and the layout around it
 pub record FreeAt (b : ℕ) (cs : List Chunk) (t : Slot) : Type 0 where
@@ -66,33 +66,26 @@ header-used h n u l n8 hu hl e =
     let k : h / 2 ≡ 2 * (n / 8) * 2 + u = omega arith in
     ap (λ (x : ℕ). x % 2) k ∙ digits-mod (2 * (n / 8)) (omega arith)
 
-pub used-walk : (f : ℕ → ℕ) (fuel e : ℕ) (l : Bool) (cs : List Chunk) (b : ℕ) → Legal cs → length cs < fuel → Tags f e l cs → usedWalk f fuel e b ≡ usedAt cs b
-unfolding usedWalk usedAt
-used-walk f zero e l cs b g h t = absurd (not-suc-le-zero h)
-used-walk f (suc fuel) e l [] b g h t =
-    let k = bit-small l in
-    let z : f (e / 4) / 4 * 4 ≡ 0 = header-len (f (e / 4)) 0 1 (bit l) refl (omega arith) k (let q : f (e / 4) ≡ 2 + bit l = t in omega arith) in
-    rw z refl
-used-walk f (suc fuel) e l (c ∷ cs) b g h t =
-    let kl = bit-small l in
-    let ku = bit-small (c .used) in
-    let n16 : 16 ≤ c .len = g .0 in
-    let z : f (e / 4) / 4 * 4 ≡ c .len = header-len (f (e / 4)) (c .len) (bit (c .used)) (bit l) (g .1) ku kl (t .0) in
-    let u : f (e / 4) / 2 % 2 ≡ bit (c .used) = header-used (f (e / 4)) (c .len) (bit (c .used)) (bit l) (g .1) ku kl (t .0) in
-    rw (z, u, ne-eqb (c .len) 0 (omega arith), used-walk f fuel (e + c .len) (c .used) cs (b - c .len) (g .2) (le-of-suc-le-suc h) (t .2)) (go (c .used))
+-- the code's walk is `usedAt` of the tiling, whatever the headers
+pub used-tile : (f : ℕ → ℕ) (fuel e b : ℕ) → usedWalk f fuel e b ≡ usedAt (tile f fuel e) b
+unfolding usedWalk usedAt tile
+used-tile f zero e b = refl
+used-tile f (suc fuel) e b =
+    rw (used-tile f fuel (e + f (e / 4) / 4 * 4) (b - f (e / 4) / 4 * 4)) (go (eqb (f (e / 4) / 4 * 4) 0) (eqb (f (e / 4) / 2 % 2) 0))
   where
-    go : (v : Bool) → pick (eqb b 0) (pick (eqb (bit v) 0) 0 (c .len)) (pick (leb (c .len) b) (usedAt cs (b - c .len)) 0)
-        ≡ pick (eqb b 0) (pick v (c .len) 0) (pick (leb (c .len) b) (usedAt cs (b - c .len)) 0)
-    go true = refl
-    go false = refl
+    n : ℕ
+    n = f (e / 4) / 4 * 4
 
--- a used chunk, and the layout around it
-pub record UsedAt (cs : List Chunk) (b n : ℕ) : Type 0 where
-  pub pre : List Chunk
-  pub post : List Chunk
-  pub is : cs ≡ pre ++ busy n ∷ post
-  pub byte : b ≡ total pre
+    rest : List Chunk
+    rest = tile f fuel (e + n)
 
+    go : (t v : Bool) → pick t 0 (pick (eqb b 0) (pick v 0 n) (pick (leb n b) (usedAt rest (b - n)) 0))
+        ≡ usedAt (pick t [] (record { len = n; used = pick v false true } ∷ rest)) b
+    go true v = refl
+    go false true = refl
+    go false false = refl
+
+-- where there is a length a used chunk begins
 pub used-at : (cs : List Chunk) (b : ℕ) → usedAt cs b ≢ 0 → UsedAt cs b (usedAt cs b)
 unfolding usedAt
 used-at [] b h = absurd (h refl)

@@ -15,10 +15,11 @@ use Rattle.rules.specs.Lists.{Mem}
 use Rattle.rules.specs.Ops.{Ops}
 use Rattle.rules.specs.State.{ops}
 use Rattle.rules.specs.Rules.{Figures, Outcome, says, byteOf, nameOf, withCached, counted}
-use Rattle.rules.specs.Machine.{Model, sizeM, liveM, gaveM, settledM}
+use Rattle.rules.specs.Machine.{Model, ask, give, sizeM, liveM, gaveM, settledM}
 use Rattle.rules.specs.Sound.{Shows, Sound}
 use Rattle.rules.specs.Test.{soundᵇ}
 use Rattle.rules.specs.Demands.{hand, back}
+use Rattle.rules.specs.Runs.{call}
 use Rattle.rules.specs.Claims.{Allowable}
 use Rattle.rules.specs.Lives.{liveAt}
 use Rattle.rules.specs.Promises.{AsTheMachine, RunAsTheMachine, Unfit, ServedExactly, ThreeExactly, FiveExactly, TakenExactly, FourExactly, FewCompared}
@@ -27,7 +28,7 @@ use Rattle.rules.proofs.Store.{Edition}
 use Rattle.rules.proofs.Follow.{live-last}
 use Rattle.rules.proofs.Cases.{hand-cases, back-cases, handM-cases, serveM-cases, backM-cases}
 use Rattle.rules.proofs.Decide.{sound-true}
-use Rattle.rules.proofs.Demands.{hand-follows, back-follows, hand-fine, hand-damaged, noFit-exact, compared-small}
+use Rattle.rules.proofs.Demands.{hand-follows, back-follows, hand-fine, back-fine, hand-damaged, back-damaged, noFit-exact, compared-small}
 use Rattle.rules.proofs.Runs.{follows, run-follows}
 use Rattle.rules.proofs.Lives.{served-sound, settled-sound, live-shown, handed-figures}
 use Rattle.rules.proofs.Proved.{narrow-edition, wide-edition}
@@ -55,14 +56,14 @@ module _ {S : Type 0} {op : Ops S Figures} {most places : ℕ} (E : Edition op m
   run-step es s m h a = run-follows E es s m h a .1
 
   -- 3 and 5 are answered for allowable sizes only, and 3 on sound states only
-  allowed : (s : S) (size : ℕ) → hand op most places s size .number ≢ 1 → hand op most places s size .number ≢ 2 → Allowable size
+  allowed : (s : S) (size : ℕ) → hand op most places s size .number ≢ 1 → hand op most places s size .number ≢ 2 → Allowable (ask size)
   allowed s size =
-      hand-cases op places (soundᵇ op most places) s size (λ o. o .number ≢ 1 → o .number ≢ 2 → Allowable size) (λ e a b. absurd (a refl))
+      hand-cases op places (soundᵇ op most places) s size (λ o. o .number ≢ 1 → o .number ≢ 2 → Allowable (ask size)) (λ e a b. absurd (a refl))
       (λ e a b. absurd (b refl))
       (λ p q e a b. (p, q)) (λ p q e a b. (p, q))
 
   -- what is not answered 5 was sound
-  sound-by : (s : S) (size : ℕ) → Allowable size → hand op most places s size .number ≢ 5 → Sound op most places s
+  sound-by : (s : S) (size : ℕ) → Allowable (ask size) → hand op most places s size .number ≢ 5 → Sound op most places s
   sound-by s size a n = go (soundᵇ op most places s) refl
     where
       P : Outcome S → Type 0
@@ -85,7 +86,7 @@ module _ {S : Type 0} {op : Ops S Figures} {most places : ℕ} (E : Edition op m
   )
 
   -- served, or no fit
-  either-way : (s : S) (m : Model) → Shows op most places s m → (size : ℕ) → Allowable size → (hand op most places s size .number ≡ 0) ⊎
+  either-way : (s : S) (m : Model) → Shows op most places s m → (size : ℕ) → Allowable (ask size) → (hand op most places s size .number ≡ 0) ⊎
       (hand op most places s size .number ≡ 3)
   either-way s m h size a =
       rw (hand-follows E s m h size .number)
@@ -100,20 +101,22 @@ module _ {S : Type 0} {op : Ops S Figures} {most places : ℕ} (E : Edition op m
     λ w. done (w .0) (w .1) (w .2) (either-way s (w .1 .0) (w .1 .1) size (w .0)),
   )
     where
-      done : Allowable size → Sound op most places s → (Unfit op most places s (roundedOf size) → ⊥)
+      done : Allowable (ask size) → Sound op most places s → (Unfit op most places s (roundedOf size) → ⊥)
           → (hand op most places s size .number ≡ 0) ⊎ (hand op most places s size .number ≡ 3) → hand op most places s size .number ≡ 0
       done a k u (inl e) = e
       done a k u (inr e) = absurd (u (three-exactly s size .0 e .1))
 
   -- 5, exactly
   pub five-exactly : FiveExactly op most places
-  five-exactly s size = (
+  unfolding call
+  five-exactly (ask size) s = (
     λ e. (
       allowed s size (λ z. (let u : _≡_ {A = ℕ} 5 1 = sym e ∙ z in omega arith)) (λ z. (let u : _≡_ {A = ℕ} 5 2 = sym e ∙ z in omega arith)),
       λ k. hand-fine E s (k .0) (k .1) size e,
     ),
     λ w. hand-damaged E s size (w .0 .0) (w .0 .1) (w .1),
   )
+  five-exactly (give p) s = (λ e. (tt, λ k. back-fine E s (k .0) (k .1) p e), λ w. back-damaged E s p (w .1))
 
   -- taking back: done or not live, on sound states
   abbrev Backed : S → ℕ → ℕ → Type 0
@@ -194,7 +197,7 @@ module _ {S : Type 0} {op : Ops S Figures} {most places : ℕ} (E : Edition op m
       rw (f .after .figs, live-shown E s m h p, h .figs)
       (backM-cases m places p (λ o. o .number ≡ 0 → Kept m o) (λ e z. absurd (let u : _≡_ {A = ℕ} 4 0 = z in omega arith))
       (λ a z. settles m a (m .figs .cached ++ nameOf (p - 4) ∷ []) (Memᴰ·append-right (m .figs .cached) (List·Memᴰ·head refl))
-      (let r = live-last E (soundᵇ op most places) s m h p a in omega arith)) (sym (f .number) ∙ n))
+      (let r = live-last E s m h p a in omega arith)) (sym (f .number) ∙ n))
     where
       Kept : Model → Outcome Model → Type 0
       Kept m o = (o .after .figs .inUse + liveM m p ≡ m .figs .inUse) × (o .after .figs .peak ≡ m .figs .peak) × (o .after .figs .high ≡ m .figs .high) ×

@@ -13,9 +13,10 @@ use Rattle.rules.specs.Steps.{oneChunk}
 use Rattle.rules.specs.State.{ops}
 use Rattle.rules.specs.Rules.{Figures, Outcome, says}
 use Rattle.rules.specs.Making.{State, acceptedᵇ, make, empty, fresh}
-use Rattle.rules.specs.Machine.{madeM}
+use Rattle.rules.specs.Machine.{Request, ask, give, madeM}
 use Rattle.rules.specs.Sound.{Accepted, Shows}
-use Rattle.rules.specs.Claims.{Iff, Demands, MakingSound}
+use Rattle.rules.specs.Runs.{call}
+use Rattle.rules.specs.Claims.{Iff, Answers, RefusedUnchanged, Returned, SoundKept, DamagedExactly, Demands, MakingSound}
 use Rattle.words.proofs.Laws.Links.{Lawful, narrow-lawful, wide-lawful}
 use Rattle.rules.proofs.Store.{Edition}
 use Rattle.rules.proofs.Decide.{sound-true, true-sound, layout-unique, orders-unique, figures-unique}
@@ -27,21 +28,51 @@ use Rattle.rules.proofs.Runs.{runs-agree, run-follows, payload-kept}
 use Rattle.rules.proofs.Bounds.{figures-fit}
 use Rattle.rules.proofs.Arrival.{arrives-empty, alike-at-handout}
 
+-- request by request
+module _ {S : Type 0} (op : Ops S Figures) (most places : ℕ) where
+  numbers : Answers op most places
+  unfolding call
+  numbers (ask n) s = hand-numbers op most places s n
+  numbers (give p) s = back-numbers op most places s p
+
+  refused : RefusedUnchanged op most places
+  unfolding call
+  refused (ask n) s = hand-refused op most places s n
+  refused (give p) s = back-refused op most places s p
+
+  returned : Returned op most places
+  unfolding call
+  returned = (each, λ s p. back-returned op most places s p)
+    where
+      each : (q : Request) (s : S) → call op most places q s .number ≢ 0
+          → (call op most places q s .value ≡ 0) × (call op most places q s .number ≢ 3 → call op most places q s .compared ≡ 0)
+      each (ask n) s = hand-returned op most places s n
+      each (give p) s = λ h. (back-returned op most places s p .0, λ k. back-returned op most places s p .1)
+
+module _ {S : Type 0} {op : Ops S Figures} {most places : ℕ} (E : Edition op most places) where
+  kept : SoundKept op most places
+  unfolding call
+  kept (ask n) s = hand-sound E s n
+  kept (give p) s = back-sound E s p
+
+  damaged : DamagedExactly op most places
+  unfolding call
+  damaged (ask n) s a = (λ e h. hand-fine E s (h .0) (h .1) n e, hand-damaged E s n (a .0) (a .1))
+  damaged (give p) s a = (λ e h. back-fine E s (h .0) (h .1) p e, back-damaged E s p)
+
+-- the demands
 pub demands : {S : Type 0} {op : Ops S Figures} {most places : ℕ} → Edition op most places → Demands op most places
 demands {op = op} {most = most} {places = places} E = record {
-  numbers = (hand-numbers op most places, back-numbers op most places);
-  refused = (hand-refused op most places, back-refused op most places);
-  returned = (hand-returned op most places, back-returned op most places);
+  numbers = numbers op most places;
+  refused = refused op most places;
+  returned = returned op most places;
   tested = λ s. (sound-true E s, true-sound E s);
   unique = λ s m n h g. (layout-unique E s m n h g, orders-unique E s m n h g, figures-unique E s m n h g);
-  kept = (hand-sound E, back-sound E);
+  kept = kept E;
   ordered = λ s h. let f = figures-fit E s (h .0) (h .1) in (f .inUse, f .committed, f .peak);
   zero = hand-zero op most places;
   large = hand-large op most places;
-  damaged = (
-    λ s size a. (λ e h. hand-fine E s (h .0) (h .1) size e, hand-damaged E s size (a .0) (a .1)),
-    λ s p. (λ e h. back-fine E s (h .0) (h .1) p e, back-damaged E s p),
-  );
+  damaged = damaged E;
   noFit = λ s m h size a. noFit-exact E s m h size (a .0) (a .1);
   notLive = λ s m h p. notLive-exact E s m h p;
   position = position E;

@@ -39,7 +39,7 @@ use Rattle.words.proofs.Laws.Links.{Lawful}
 use Rattle.rules.specs.State.{ops}
 use Rattle.rules.specs.Rules.{Figures, says, byteOf, nameOf, Chosen, none, one, choose, withCached, released, fromList, fromCache, serve, handOut}
 use Rattle.rules.specs.Rules.{settled, takeBack}
-use Rattle.rules.specs.Machine.{Model, Request, ask, give, callM, sizeM, searched, searchM, liveM, gaveM, settledM, takeBackM, madeM}
+use Rattle.rules.specs.Machine.{Model, Request, ask, give, Answer, answerOf, callM, sizeM, searched, searchM, liveM, gaveM, settledM, takeBackM, madeM, stepsM, repliesM}
 use Rattle.rules.specs.Sound.{Accepted, Shows}
 use Rattle.rules.proofs.Store.{Edition}
 use Rattle.rules.proofs.Follow.{Follows, shown, whole, L, search-same, met-free, used-size, left-there, live-same, snoc-used, r16, r8}
@@ -47,21 +47,39 @@ use Rattle.rules.proofs.Follow.{Picked, choose-picked, choose-cached, p
 use Rattle.rules.proofs.Bounds.{cached-fits}
 use Rattle.rules.proofs.Decide.{true-sound, layout-unique}
 use Rattle.rules.specs.Test.{soundᵇ}
-use Rattle.rules.specs.Demands.{hand, back}
+use Rattle.rules.specs.Demands.{LiveWord, hand, back}
 use Rattle.rules.proofs.Demands.{hand-follows, back-follows}
 use Rattle.rules.specs.Making.{fresh}
 use Rattle.rules.proofs.Editions.{edition, made-shows}
-use Rattle.rules.specs.Runs.{Live, LiveWord, Same, acts, call, machine}
+use Rattle.rules.specs.Runs.{Live, Same, acts, call, machine}
 
+-- the machine's runs
+pub steps-machine : (places : ℕ) (qs : List Request) (m : Model) → steps (machine places) qs m ≡ stepsM places qs m
+unfolding steps stepsM
+steps-machine places [] m = refl
+steps-machine places (q ∷ qs) m = steps-machine places qs (callM places q m .after)
+
+pub replies-machine : (places : ℕ) (qs : List Request) (m : Model) → replies (machine places) qs m ≡ repliesM places qs m
+unfolding replies repliesM
+replies-machine places [] m = refl
+replies-machine places (q ∷ qs) m = ap (λ (bs : List Answer). answerOf (callM places q m) ∷ bs) (replies-machine places qs (callM places q m .after))
+
+-- a live word lies in the payload of a used chunk
 payload : (m : Model) (i : ℕ) → LiveWord m i → Payload (m .cs) i
-payload m i l = let a = l .low in let b = l .high in record { pre = l .pre; size = l .size; post = l .post; is = l .is; low = omega arith; high = omega arith }
+payload m i l =
+    let u = l .2 .1 in
+    let b = u .byte in
+    let p4 = l .2 .0 in
+    let lo = l .3 .0 in
+    let hi = l .3 .1 in
+    record { pre = u .pre; size = l .1; post = u .post; is = u .is; low = omega arith; high = omega arith }
 
 module _ {S : Type 0} {op : Ops S Figures} {most places : ℕ} (E : Edition op most places) where
   abbrev Sh : S → Model → Type 0
   Sh = Shows op most places
 
   payload-of : (s : S) (m : Model) (i : ℕ) → Sh s m → Live op most places s i → Payload (m .cs) i
-  payload-of s m i h l = subst (λ cs. Payload cs i) (layout-unique E s (l .shows) m (l .abs) h) (payload (l .shows) i (l .word))
+  payload-of s m i h l = subst (λ cs. Payload cs i) (layout-unique E s (l .0) m (l .1) h) (payload (l .0) i (l .2))
 
   pub write-shows : (s : S) (m : Model) (i v : ℕ) → Sh s m → Live op most places s i → Sh (op .setWord s i v) m
   write-shows s m i v h l =
@@ -79,7 +97,6 @@ module _ {S : Type 0} {op : Ops S Figures} {most places : ℕ} (E : Edition op m
     shows = m;
     left = a;
     right = b;
-    figures = a .figs ∙ sym (b .figs);
     tags = λ i g. tags-agree (op .word s) (op .word t) 0 true (m .cs) (a .tags) (b .tags) i g;
     nexts = λ k x h i. (seg-agree (op .next s) (op .prev s) (op .next t) (op .prev t) k (m .orders k) k (a .lists k h) (b .lists k h)) .0 x i;
     prevs = λ k x h i. (seg-agree (op .next s) (op .prev s) (op .next t) (op .prev t) k (m .orders k) k (a .lists k h) (b .lists k h)) .1 x i;
@@ -136,6 +153,7 @@ module _ {S : Type 0} {op : Ops S Figures} {most places : ℕ} (E : Edition op m
   module _ (s : S) (m : Model) (h : Sh s m) (i : ℕ) where
     -- a cached chunk's payload holds no word of a live one
     cached-out : (l : LiveWord m i) (x : ℕ) → Mem x (m .figs .cached) → (i ≤ x - 6) ⊎ (x - 6 + lengthAt op s x / 4 ≤ i)
+    unfolding payload
     cached-out l x q =
         let v = h .cache .used x q in
         let v0 = v .0 in
@@ -144,20 +162,21 @@ module _ {S : Type 0} {op : Ops S Figures} {most places : ℕ} (E : Edition op m
         let u = used-at (m .cs) (byteOf x) (omega arith) in
         let b : (x - 6) * 4 ≡ total (u .pre) = u .byte in
         let y = used-size E s m h x (v .0) (v .1) in
-        let lo = l .low in
-        let hi = l .high in
+        let w = payload m i l in
+        let lb = l .2 .1 .byte in
         let p : Payload (u .pre ++ busy n ∷ u .post) i =
-        record { pre = l .pre; size = l .size; post = l .post; is = sym (u .is) ∙ l .is; low = omega arith; high = omega arith } in
+        record { pre = w .pre; size = w .size; post = w .post; is = sym (u .is) ∙ w .is; low = w .low; high = w .high } in
         past-emptied ((0 + total (u .pre)) / 4) ((0 + total (u .pre) + n) / 4) i (x - 6) (lengthAt op s x) (omega arith) (omega arith)
         (payload-other (u .pre) n (u .post) i p
-        (λ e. l .cold (subst (λ (t : ℕ). Mem t (m .figs .cached)) (let r : x ≡ nameOf (total (l .pre)) = omega arith in r) q)))
+        (λ e. l .2 .2 (subst (λ (t : ℕ). Mem t (m .figs .cached)) (let d : total (u .pre) ≡ total (l .2 .1 .pre) = e in
+        let r : x ≡ nameOf (l .0 - 4) = omega arith in r) q)))
 
     hand-keeps : (size : ℕ) → LiveWord m i → op .word (hand op most places s size .after) i ≡ op .word s i
     unfolding handOut serve fromCache fromList
     hand-keeps size l = rw (true-sound E s (m, h)) (go (eqb size 0) (ltb 4294967284 size))
       where
         list : (r : Found) → Fits (sizeM m) (roundedOf size) (searched m (roundedOf size)) r
-            → op .word (fromList op places (soundᵇ op most places) s (roundedOf size) r .after) i ≡ op .word s i
+            → op .word (fromList op s (roundedOf size) r .after) i ≡ op .word s i
         list (nowhere c) f = refl
         list lost f = refl
         list (at x c) f =
@@ -166,7 +185,7 @@ module _ {S : Type 0} {op : Ops S Figures} {most places : ℕ} (E : Edition op m
             took-keeps s (g .pre) (r .0) (g .post) (m .orders) (m .figs) x (roundedOf size) i _ (r16 size) (r8 size) (g .named)
             (subst (λ cs. Sh s (record { cs = cs; orders = m .orders; figs = m .figs })) (g .is) h) (subst (λ cs. Payload cs i) (g .is) (payload m i l))
 
-        served : (c : Chosen) → Picked (sizeM m) (roundedOf size) (m .figs .cached) c → op .word (fromCache op places (soundᵇ op most places) s (roundedOf size) c .after) i ≡ op .word s i
+        served : (c : Chosen) → Picked (sizeM m) (roundedOf size) (m .figs .cached) c → op .word (fromCache op s (roundedOf size) c .after) i ≡ op .word s i
         served (one x ks) p =
             let c = cached-fits E s m h x (subst (λ (f : Figures). Mem x (f .cached)) (sym (h .figs)) (p .1)) in
             let n16 = c .least in
@@ -174,11 +193,11 @@ module _ {S : Type 0} {op : Ops S Figures} {most places : ℕ} (E : Edition op m
             emptied-out (L E s m h) (op .setRest s g) (x - 6) (lengthAt op s x) i (omega arith) (cached-out l x (p .1))
             ∙ L E s m h .word-setRest s g i
         served none p =
-            rw (search-same E s m h (soundᵇ op most places) (roundedOf size))
+            rw (search-same E s m h (roundedOf size))
             (list (searchM m (roundedOf size)) (find-fits (sizeM m) (roundedOf size) (searched m (roundedOf size)) 0))
 
         go : (a b : Bool) → op .word ((pick a (says 1 0 0 s)
-            (pick b (says 2 0 0 s) (fromCache op places (soundᵇ op most places) s (roundedOf size)
+            (pick b (says 2 0 0 s) (fromCache op s (roundedOf size)
             (choose (lengthAt op s) (roundedOf size) (op .rest s .cached))))) .after) i ≡ op .word s i
         go true b = refl
         go false true = refl
@@ -211,7 +230,7 @@ module _ {S : Type 0} {op : Ops S Figures} {most places : ℕ} (E : Edition op m
         (shape-out (L E s m h) classOf class-below s n _ _ _ i (shape (L E s m h) classOf class-below s n (u .pre) (u .post) c lq) (subst (λ ds. Payload ds i) q p″))
 
     settled-keeps : (v : ℕ) (ks : List ℕ) → ((x : ℕ) → Mem x ks → (6 ≤ x) × (0 < usedAt (m .cs) (byteOf x))) → Payload (m .cs) i → Payload (settledM places m v ks .cs) i
-        → op .word (settled op places (soundᵇ op most places) s v ks) i ≡ op .word s i
+        → op .word (settled op places s v ks) i ≡ op .word s i
     unfolding settled
     settled-keeps v [] us p p′ = refl
     settled-keeps v (k ∷ ks) us p p′ = go (leb (length (k ∷ ks)) places) p′
@@ -224,24 +243,24 @@ module _ {S : Type 0} {op : Ops S Figures} {most places : ℕ} (E : Edition op m
 
     back-keeps : (p : ℕ) → Payload (m .cs) i → Payload (takeBackM places m p .after .cs) i → op .word (back op most places s p .after) i ≡ op .word s i
     unfolding takeBack takeBackM
-    back-keeps p a b = rw (true-sound E s (m, h), live-same E (soundᵇ op most places) s m h p, h .figs) (go (eqb (liveM m p) 0) refl b)
+    back-keeps p a b = rw (true-sound E s (m, h), live-same E s m h p, h .figs) (go (eqb (liveM m p) 0) refl b)
       where
         go : (t : Bool) → eqb (liveM m p) 0 ≡ t
             → Payload ((pick t (says 4 0 0 m) (says 0 0 0 (settledM places m (m .figs .inUse - liveM m p) (m .figs .cached ++ nameOf (p - 4) ∷ [])))) .after .cs) i
             → op .word ((pick t (says 4 0 0 s) (says 0 0 0
-            (settled op places (soundᵇ op most places) s (m .figs .inUse - liveM m p) (m .figs .cached ++ nameOf (p - 4) ∷ [])))) .after) i ≡ op .word s i
+            (settled op places s (m .figs .inUse - liveM m p) (m .figs .cached ++ nameOf (p - 4) ∷ [])))) .after) i ≡ op .word s i
         go true e y = refl
         go false e y =
-            settled-keeps (m .figs .inUse - liveM m p) (m .figs .cached ++ nameOf (p - 4) ∷ []) (snoc-used E (soundᵇ op most places) s m h p (eqb-false (liveM m p) 0 e)) a y
+            settled-keeps (m .figs .inUse - liveM m p) (m .figs .cached ++ nameOf (p - 4) ∷ []) (snoc-used E s m h p (eqb-false (liveM m p) 0 e)) a y
 
   -- NO CALL CHANGES a word of a payload live before and after it
   pub payload-kept : (q : Request) (s : S) (i : ℕ) → Live op most places s i → Live op most places (call op most places q s .after) i
       → op .word (call op most places q s .after) i ≡ op .word s i
   unfolding call callM
-  payload-kept (ask n) s i l l′ = hand-keeps s (l .shows) (l .abs) i n (l .word)
+  payload-kept (ask n) s i l l′ = hand-keeps s (l .0) (l .1) i n (l .2)
   payload-kept (give p) s i l l′ =
-      back-keeps s (l .shows) (l .abs) i p (payload (l .shows) i (l .word))
-      (payload-of (back op most places s p .after) (takeBackM places (l .shows) p .after) i (back-follows E s (l .shows) (l .abs) p .after) l′)
+      back-keeps s (l .0) (l .1) i p (payload (l .0) i (l .2))
+      (payload-of (back op most places s p .after) (takeBackM places (l .0) p .after) i (back-follows E s (l .0) (l .1) p .after) l′)
 
 -- DEMAND 3, from making on, for any two link widths: the editions agree. With one width these are two heaps of one edition
 module _ {W W′ : Width} (E : Lawful W) (E′ : Lawful W′) (most most′ places : ℕ) (f : most + 6 ≤ W .limit) (f′ : most′ + 6 ≤ W′ .limit) where

@@ -135,6 +135,13 @@ turn-distinct O (suc n) k d h =
     (turn-distinct O n (suc k) (λ j q. d j (omega arith)) (λ i j x p q a b. h i j x (omega arith) (omega arith) a b))
     (λ x a b. let r = in-turn O n (suc k) x b in let lo = r .1 in let hi = r .2 in let e = h k (r .0) x (omega arith) (omega arith) a (r .3) in omega arith)
 
+-- lists that agree, in turn
+pub turn-same : (O P : ℕ → List ℕ) (n k : ℕ) → ((j : ℕ) → j < k + n → O j ≡ P j) → inTurn O n k ≡ inTurn P n k
+unfolding inTurn
+turn-same O P zero k h = refl
+turn-same O P (suc n) k h =
+    ap (λ (xs : List ℕ). xs ++ inTurn O n (suc k)) (h k (omega arith)) ∙ ap (λ (xs : List ℕ). P k ++ xs) (turn-same O P n (suc k) (λ j q. h j (omega arith)))
+
 -- THE WHOLE SEARCH along the links is the search along the orders: no more than N are listed
 module _ (nx pv size size′ : ℕ → ℕ) (z N : ℕ) (O : ℕ → List ℕ) where
   pub search-walk : (n k c : ℕ) → ((j : ℕ) → j < k + n → (Mem j (O j) → ⊥) × Seg nx pv j (O j) j × ((x : ℕ) → Mem x (O j) → size x ≡ size′ x))

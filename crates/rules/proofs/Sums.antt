@@ -8,7 +8,8 @@ use native.Mathlib.Nat.{not-suc-le-zero, le-of-suc-le-suc}
 use lib.Dec.{leb}
 use lib.ListN.{length, getD}
 use Rattle.words.specs.Choice.{pick}
-use Rattle.rules.specs.Chunks.{Chunk, free, busy, either, join, release, taken, cut, usedSum}
+use Rattle.rules.specs.Chunks.{Chunk, free, busy, join, release, taken, cut, usedSum}
+use Rattle.rules.specs.Test.{either}
 
 join-used-sum : (c : Chunk) (cs : List Chunk) → usedSum (join c cs) ≡ pick (c .used) (c .len) 0 + usedSum cs
 unfolding join

@@ -8,11 +8,16 @@ use Prim.Native.Nat.{ℕ, _+_, _-_, _/_, _≤_, _<_}
 use native.Mathlib.Nat.{add-zero, add-assoc}
 use native.Mathlib.Omega.{arith}
 use Rattle.words.specs.Choice.{pick, bit}
-use Rattle.rules.specs.Chunks.{Chunk, free, total, Legal, Calm, either}
+use Rattle.rules.specs.Chunks.{Chunk, free, total, Legal, Calm}
+use Rattle.rules.specs.Test.{either}
 use Rattle.rules.proofs.Chunks.{usedLast}
 use Rattle.rules.specs.Exact.{Slot, slot, In, frees}
 use Rattle.rules.proofs.Exact.{frees-from}
-use Rattle.rules.specs.Tags.{Foot, Tag, Tags, headTag}
+use Rattle.rules.specs.Tags.{Tag, Tags, headTag}
+
+-- a free chunk's last word is its length
+abbrev pub Foot : (ℕ → ℕ) → ℕ → Chunk → Type 0
+Foot f b c = c .used ≡ false → f ((b + c .len) / 4 - 1) ≡ c .len
 
 -- the same of a front part, with no guard
 abbrev pub Front : (ℕ → ℕ) → ℕ → Bool → List Chunk → Type 0

@@ -37,20 +37,15 @@ abbrev pub usedHead : List Chunk → Bool
 usedHead [] = true
 usedHead (c ∷ cs) = c .used
 
--- one or the other
-abbrev pub either : Bool → Bool → Bool
-either true b = true
-either false b = b
-
--- no two free chunks touch
+-- no two free chunks touch: each is used, or what is right of it is
 abbrev pub Calm : List Chunk → Type 0
 Calm [] = Unit {0}
-Calm (c ∷ cs) = (either (c .used) (usedHead cs) ≡ true) × Calm cs
+Calm (c ∷ cs) = (pick (c .used) true (usedHead cs) ≡ true) × Calm cs
 
 -- c in front of cs; two free chunks that would touch become one
 unfoldable pub join : Chunk → List Chunk → List Chunk
 join c [] = c ∷ []
-join c (d ∷ cs) = pick (either (c .used) (d .used)) (c ∷ d ∷ cs) (free (c .len + d .len) ∷ cs)
+join c (d ∷ cs) = pick (pick (c .used) true (d .used)) (c ∷ d ∷ cs) (free (c .len + d .len) ∷ cs)
 
 -- RELEASING chunk i: it becomes free, and is merged with what it then touches: neither, left, right, both
 unfoldable pub release : List Chunk → ℕ → List Chunk

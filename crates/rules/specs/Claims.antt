@@ -12,10 +12,10 @@ use Rattle.rules.specs.Ops.{Ops}
 use Rattle.rules.specs.State.{ops}
 use Rattle.rules.specs.Rules.{Figures, Outcome}
 use Rattle.rules.specs.Making.{make, empty}
-use Rattle.rules.specs.Machine.{Model, Request, madeM}
+use Rattle.rules.specs.Machine.{Model, Request, ask, give, madeM}
 use Rattle.rules.specs.Sound.{Accepted, Shows, Sound}
 use Rattle.rules.specs.Test.{soundᵇ}
-use Rattle.rules.specs.Demands.{NoFit, FromCache, FromList, LiveAt, InPayload, hand, back}
+use Rattle.rules.specs.Demands.{NoFit, FromCache, FromList, LiveAt, Holds, hand, back}
 use Rattle.rules.specs.TwoRuns.{Event, requests, run, answers, Allowed, replies}
 use Rattle.rules.specs.Runs.{machine, acts, call, Live, Same}
 
@@ -23,43 +23,53 @@ use Rattle.rules.specs.Runs.{machine, acts, call, Live, Same}
 abbrev pub Iff : Type 0 → Type 0 → Type 0
 Iff P Q = (P → Q) × (Q → P)
 
-abbrev pub Allowable : ℕ → Type 0
-Allowable size = (0 < size) × (size ≤ 4294967284)
+-- a request that is refused neither with 1 nor with 2
+abbrev pub Allowable : Request → Type 0
+Allowable (ask size) = (0 < size) × (size ≤ 4294967284)
+Allowable (give p) = Unit {0}
+
+-- the numbers that it may be answered with
+abbrev pub numbersOf : Request → List ℕ
+numbersOf (ask size) = 0 ∷ 1 ∷ 2 ∷ 3 ∷ 5 ∷ []
+numbersOf (give p) = 0 ∷ 4 ∷ 5 ∷ []
 
 module _ {S : Type 0} (op : Ops S Figures) (most places : ℕ) where
-  -- the outcome of asking a state for a size, and of giving a payload offset back to it
+  -- the outcome of asking a state for a size
   abbrev pub asked : S → ℕ → Outcome S
   asked s size = hand op most places s size
 
+  -- and of giving a payload offset back to it
   abbrev pub given : S → ℕ → Outcome S
   given s p = back op most places s p
 
   -- DEMAND 1: whatever the state, an answer is one of document 01's, and after a refusal record and words are as they were
   abbrev pub Answers : Type 0
-  Answers = ((s : S) (size : ℕ) → Mem (asked s size .number) (0 ∷ 1 ∷ 2 ∷ 3 ∷ 5 ∷ [])) × ((s : S) (p : ℕ) → Mem (given s p .number) (0 ∷ 4 ∷ 5 ∷ []))
+  Answers = (q : Request) (s : S) → Mem (call op most places q s .number) (numbersOf q)
 
+  -- after a refusal all is as it was
   abbrev pub RefusedUnchanged : Type 0
-  RefusedUnchanged = ((s : S) (size : ℕ) → asked s size .number ≢ 0 → asked s size .after ≡ s) × ((s : S) (p : ℕ) → given s p .number ≢ 0 → given s p .after ≡ s)
+  RefusedUnchanged = (q : Request) (s : S) → call op most places q s .number ≢ 0 → call op most places q s .after ≡ s
 
   -- what is returned with it: 0 unless a chunk is handed out; and 0 compared but for handouts and no fit
   abbrev pub Returned : Type 0
   Returned =
-      ((s : S) (size : ℕ) → asked s size .number ≢ 0 → (asked s size .value ≡ 0) × (asked s size .number ≢ 3 → asked s size .compared ≡ 0))
+      ((q : Request) (s : S) → call op most places q s .number ≢ 0
+      → (call op most places q s .value ≡ 0) × (call op most places q s .number ≢ 3 → call op most places q s .compared ≡ 0))
       × ((s : S) (p : ℕ) → (given s p .value ≡ 0) × (given s p .compared ≡ 0))
 
   -- SOUND: the test agrees with it; layout, orders and figures are unique; the calls keep it
   abbrev pub SoundTested : Type 0
   SoundTested = (s : S) → Iff (soundᵇ op most places s ≡ true) (Sound op most places s)
 
+  -- a state shows one layout, one order of each list and one set of figures
   abbrev pub SoundUnique : Type 0
   SoundUnique =
       (s : S) (m n : Model) → Shows op most places s m → Shows op most places s n
       → (m .cs ≡ n .cs) × ((k : ℕ) → k < 6 → m .orders k ≡ n .orders k) × (m .figs ≡ n .figs)
 
+  -- a call on a sound state leaves one
   abbrev pub SoundKept : Type 0
-  SoundKept =
-      ((s : S) (size : ℕ) → Sound op most places s → Sound op most places (asked s size .after))
-      × ((s : S) (p : ℕ) → Sound op most places s → Sound op most places (given s p .after))
+  SoundKept = (q : Request) (s : S) → Sound op most places s → Sound op most places (call op most places q s .after)
 
   -- what tasks hold is committed, committed is at most its peak, and that at most high water
   abbrev pub FiguresOrdered : Type 0
@@ -71,20 +81,22 @@ module _ {S : Type 0} (op : Ops S Figures) (most places : ℕ) where
   abbrev pub ZeroExactly : Type 0
   ZeroExactly = (s : S) (size : ℕ) → Iff (asked s size .number ≡ 1) (size ≡ 0)
 
+  -- 2 exactly above 4,294,967,284
   abbrev pub LargeExactly : Type 0
   LargeExactly = (s : S) (size : ℕ) → Iff (asked s size .number ≡ 2) (4294967284 < size)
 
+  -- 5 exactly on a state that is not sound, for a request that gets neither 1 nor 2
   abbrev pub DamagedExactly : Type 0
-  DamagedExactly =
-      ((s : S) (size : ℕ) → Allowable size → Iff (asked s size .number ≡ 5) (Sound op most places s → ⊥))
-      × ((s : S) (p : ℕ) → Iff (given s p .number ≡ 5) (Sound op most places s → ⊥))
+  DamagedExactly = (q : Request) (s : S) → Allowable q → Iff (call op most places q s .number ≡ 5) (Sound op most places s → ⊥)
 
+  -- 3 exactly where the model has no fit
   abbrev pub NoFitExactly : Type 0
   NoFitExactly =
-      (s : S) (m : Model) → Shows op most places s m → (size : ℕ) → Allowable size → Iff (asked s size .number ≡ 3) (NoFit m (roundedOf size))
+      (s : S) (m : Model) → Shows op most places s m → (size : ℕ) → Allowable (ask size) → Iff (asked s size .number ≡ 3) (NoFit m (roundedOf size))
 
+  -- 4 exactly where no live payload begins
   abbrev pub NotLiveExactly : Type 0
-  NotLiveExactly = (s : S) (m : Model) → Shows op most places s m → (p : ℕ) → Iff (given s p .number ≡ 4) (LiveAt m p → ⊥)
+  NotLiveExactly = (s : S) (m : Model) → Shows op most places s m → (p : ℕ) → Iff (given s p .number ≡ 4) ((n : ℕ) → LiveAt m p n → ⊥)
 
   -- and the compared count: a place in the rules' search; at most 1 below 512; for no fit the whole class 5 list from 512 on, else 0
   abbrev pub Position : Type 0
@@ -93,6 +105,7 @@ module _ {S : Type 0} (op : Ops S Figures) (most places : ℕ) where
       → (asked s size .compared ≡ 0 → FromCache m (roundedOf size) (asked s size .value))
       × (0 < asked s size .compared → FromList m (roundedOf size) (asked s size .value) (asked s size .compared))
 
+  -- how many at most, and how many where nothing fits
   abbrev pub Compared : Type 0
   Compared =
       (s : S) (m : Model) → Shows op most places s m → (size : ℕ)
@@ -119,14 +132,17 @@ module _ {S : Type 0} (op : Ops S Figures) (most places : ℕ) where
   abbrev pub ArrivesEmpty : Type 0
   ArrivesEmpty =
       (s : S) (m : Model) (size : ℕ) → asked s size .number ≡ 0 → Shows op most places (asked s size .after) m
-      → LiveAt m (asked s size .value) × ((i : ℕ) → InPayload m (asked s size .value) i → op .word (asked s size .after) i ≡ 0)
+      → (n : ℕ) × LiveAt m (asked s size .value) n × ((i : ℕ) → Holds (asked s size .value) n i → op .word (asked s size .after) i ≡ 0)
 
   -- so at the moment of handout its words are equal in two heaps that showed one model
   abbrev pub AlikeAtHandout : Type 0
   AlikeAtHandout =
-      (s t : S) (m n : Model) (size : ℕ) → Shows op most places s m → Shows op most places t m → asked s size .number ≡ 0 → Shows op most places (asked s size .after) n
-      → (i : ℕ) → InPayload n (asked s size .value) i → op .word (asked s size .after) i ≡ op .word (asked t size .after) i
+      (s t : S) (m k : Model) (size : ℕ) → Shows op most places s m → Shows op most places t m → asked s size .number ≡ 0
+      → Shows op most places (asked s size .after) k
+      → (n i : ℕ) → LiveAt k (asked s size .value) n → Holds (asked s size .value) n i
+      → op .word (asked s size .after) i ≡ op .word (asked t size .after) i
 
+  -- the statements, together
   pub record Demands : Type 0 where
     pub numbers : Answers
     pub refused : RefusedUnchanged

@@ -12,6 +12,7 @@ use Rattle.rules.specs.Orders.{freeHead, freeLast}
 use Rattle.rules.specs.Rules.{Figures, byteOf, nameOf}
 use Rattle.rules.specs.Machine.{Model, sizeM}
 use Rattle.rules.specs.Sound.{Shows}
+use Rattle.rules.specs.Demands.{Holds}
 use Rattle.rules.specs.Claims.{asked, given}
 use Rattle.rules.specs.Lives.{liveAt}
 
@@ -22,10 +23,6 @@ NoLink m i = (x n : ℕ) → In (slot x n) (frees 0 (m .cs)) → (i ≢ x - 5) �
 -- word i lies before word a, or after word b
 abbrev pub Outside : ℕ → ℕ → ℕ → Type 0
 Outside a b i = (i < a) ⊎ (b < i)
-
--- word i lies in the payload at p of a chunk of l bytes, which ends l - 4 bytes after p
-abbrev pub Holds : ℕ → ℕ → ℕ → Type 0
-Holds p l i = (p ≤ 4 * i) × (4 * i + 4 ≤ p - 4 + l)
 
 module _ {S : Type 0} (op : Ops S Figures) (most places : ℕ) where
   -- HANDING OUT at payload v writes words of the chunk there, as long as it was before it was cut, the header right of it, and links

@@ -11,6 +11,7 @@ use Rattle.rules.specs.Place.{lenAt, indexAt, usedAt}
 use Rattle.rules.specs.Orders.{takenOrders, mergedOrders, freeLast, freeHead, push}
 use Rattle.rules.specs.Rules.{Figures, Outcome, says, byteOf, nameOf, Chosen, none, one, choose, listed, withCached, counted, released}
 use Rattle.rules.specs.Steps.{portion}
+use Rattle.rules.specs.Making.{begun}
 
 -- the chunks left to right, the six orders of free ones, the figures
 pub record Model : Type 0 where
@@ -24,12 +25,7 @@ sizeM m x = lenAt (m .cs) (byteOf x)
 
 -- made in n words: one free chunk, listed
 abbrev pub madeM : ℕ → Model
-madeM n =
-    record {
-      cs = free (4 * (n - 1)) ∷ [];
-      orders = push (λ k. []) (classOf (4 * (n - 1))) 6;
-      figs = record { words = n; cached = []; inUse = 0; committed = 0; peak = 0; high = 0; flag = 0 };
-    }
+madeM n = record { cs = free (4 * (n - 1)) ∷ []; orders = push (λ k. []) (classOf (4 * (n - 1))) 6; figs = begun n }
 
 -- HANDING OUT: the listed chunk x of n bytes taken for z
 unfoldable pub tookM : Model → ℕ → ℕ → ℕ → Model
@@ -63,14 +59,11 @@ fromCacheM m z none = fromListM m z (searchM m z)
 unfoldable pub handOutM : Model → ℕ → Outcome Model
 handOutM m size =
     let serve = fromCacheM m (roundedOf size) (choose (sizeM m) (roundedOf size) (m .figs .cached)) in
-    let small = pick (ltb 4294967284 size) (says 2 0 0 m) serve in
-    pick (eqb size 0) (says 1 0 0 m) small
+    pick (eqb size 0) (says 1 0 0 m) (pick (ltb 4294967284 size) (says 2 0 0 m) serve)
 
 -- TAKING BACK: the length of the live chunk whose payload begins at p, 0 where none does
 unfoldable pub liveM : Model → ℕ → ℕ
-liveM m p =
-    let cold = pick (listed (nameOf (p - 4)) (m .figs .cached)) 0 (usedAt (m .cs) (p - 4)) in
-    pick (leb 4 p) cold 0
+liveM m p = pick (leb 4 p) (pick (listed (nameOf (p - 4)) (m .figs .cached)) 0 (usedAt (m .cs) (p - 4))) 0
 
 -- the chunk of n bytes at byte b released, ks cached, tasks holding i bytes
 unfoldable pub gaveM : Model → ℕ → List ℕ → ℕ → ℕ → Model
@@ -114,3 +107,12 @@ answerOf o = record { number = o .number; value = o .value; compared = o .compar
 unfoldable pub callM : ℕ → Request → Model → Outcome Model
 callM places (ask n) m = handOutM m n
 callM places (give p) m = takeBackM places m p
+
+-- requests one after the other: the model after them, and their answers
+unfoldable pub stepsM : ℕ → List Request → Model → Model
+stepsM places [] m = m
+stepsM places (q ∷ qs) m = stepsM places qs (callM places q m .after)
+
+unfoldable pub repliesM : ℕ → List Request → Model → List Answer
+repliesM places [] m = []
+repliesM places (q ∷ qs) m = answerOf (callM places q m) ∷ repliesM places qs (callM places q m .after)

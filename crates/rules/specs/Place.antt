@@ -1,9 +1,18 @@
 -- WHERE CHUNKS STAND, by byte: in a list of chunks, and as the headers tell.
-use mathlib.Core.List.{List, [], _∷_}
+use mathlib.Core.Path.{_≡_}
+use mathlib.Core.Bool.{true, false}
+use mathlib.Core.List.{List, [], _∷_, _++_}
 use Prim.Native.Nat.{ℕ, zero, suc, _+_, _-_, _*_, _/_, _%_}
 use lib.Dec.{eqb, leb}
 use Rattle.words.specs.Choice.{pick}
-use Rattle.rules.specs.Chunks.{Chunk}
+use Rattle.rules.specs.Chunks.{Chunk, busy, total}
+
+-- A USED CHUNK of n bytes at byte b
+pub record UsedAt (cs : List Chunk) (b n : ℕ) : Type 0 where
+  pub pre : List Chunk
+  pub post : List Chunk
+  pub is : cs ≡ pre ++ busy n ∷ post
+  pub byte : b ≡ total pre
 
 -- the length of the chunk at byte b, and how many chunks are before it
 unfoldable pub lenAt : List Chunk → ℕ → ℕ
@@ -17,12 +26,16 @@ indexAt (c ∷ cs) b = let r = suc (indexAt cs (b - c .len)) in pick (eqb b 0) 0
 -- the length of the used chunk that begins at byte b; 0 where none does
 unfoldable pub usedAt : List Chunk → ℕ → ℕ
 usedAt [] b = 0
-usedAt (c ∷ cs) b =
-    let r = usedAt cs (b - c .len) in
-    let q = pick (leb (c .len) b) r 0 in
-    pick (eqb b 0) (pick (c .used) (c .len) 0) q
+usedAt (c ∷ cs) b = pick (eqb b 0) (pick (c .used) (c .len) 0) (pick (leb (c .len) b) (usedAt cs (b - c .len)) 0)
 
--- the same along the headers f, from byte e on: the tiling alone tells
+-- THE TILING: the chunks that the headers f give, from byte e on; at most `fuel` of them
+unfoldable pub tile : (ℕ → ℕ) → ℕ → ℕ → List Chunk
+tile f zero e = []
+tile f (suc fuel) e =
+    let n = f (e / 4) / 4 * 4 in
+    pick (eqb n 0) [] (record { len = n; used = pick (eqb (f (e / 4) / 2 % 2) 0) false true } ∷ tile f fuel (e + n))
+
+-- `usedAt` along the headers f, from byte e on, as the code walks: proofs/Place.antt has that it is `usedAt` of the tiling
 unfoldable pub usedWalk : (ℕ → ℕ) → ℕ → ℕ → ℕ → ℕ
 usedWalk f zero e b = 0
 usedWalk f (suc fuel) e b =

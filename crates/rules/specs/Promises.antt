@@ -10,7 +10,7 @@ use Rattle.words.specs.Links.{Width, prev, next}
 use Rattle.rules.specs.Ops.{Ops}
 use Rattle.rules.specs.Rules.{Figures}
 use Rattle.rules.specs.Making.{make}
-use Rattle.rules.specs.Machine.{Model, Request, answerOf, callM}
+use Rattle.rules.specs.Machine.{Model, Request, ask, answerOf, callM}
 use Rattle.rules.specs.Sound.{Accepted, Shows, Sound}
 use Rattle.rules.specs.Demands.{NoFit}
 use Rattle.rules.specs.TwoRuns.{Event, requests, steps, run, Allowed}
@@ -59,15 +59,17 @@ module _ {S : Type 0} (op : Ops S Figures) (most places : ℕ) where
 
   -- a handout is done exactly for an allowable size, on a sound state, where something fits
   abbrev pub ServedExactly : Type 0
-  ServedExactly = (s : S) (size : ℕ) → Iff (asked op most places s size .number ≡ 0) (Allowable size × Sound op most places s × (Unfit s (roundedOf size) → ⊥))
+  ServedExactly =
+      (s : S) (size : ℕ)
+      → Iff (asked op most places s size .number ≡ 0) (Allowable (ask size) × Sound op most places s × (Unfit s (roundedOf size) → ⊥))
 
   -- 3 exactly for an allowable size, on a sound state, where nothing fits (what shows a model is sound)
   abbrev pub ThreeExactly : Type 0
-  ThreeExactly = (s : S) (size : ℕ) → Iff (asked op most places s size .number ≡ 3) (Allowable size × Unfit s (roundedOf size))
+  ThreeExactly = (s : S) (size : ℕ) → Iff (asked op most places s size .number ≡ 3) (Allowable (ask size) × Unfit s (roundedOf size))
 
-  -- 5 exactly for an allowable size on a state that is not sound
+  -- 5 exactly for an allowable request on a state that is not sound
   abbrev pub FiveExactly : Type 0
-  FiveExactly = (s : S) (size : ℕ) → Iff (asked op most places s size .number ≡ 5) (Allowable size × (Sound op most places s → ⊥))
+  FiveExactly = (q : Request) (s : S) → Iff (call op most places q s .number ≡ 5) (Allowable q × (Sound op most places s → ⊥))
 
   -- a free is done exactly on a sound state with a live payload there
   abbrev pub TakenExactly : Type 0

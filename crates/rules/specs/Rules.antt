@@ -9,8 +9,9 @@ use Rattle.words.specs.Choice.{pick}
 use Rattle.words.specs.Sizes.{roundedOf, startOf}
 use Rattle.rules.specs.Ops.{Ops}
 use Rattle.rules.specs.Steps.{portion, lengthAt, takeChunk, emptied, releaseChunk}
-use Rattle.rules.specs.Search.{Found, at, nowhere, lost, findWalk, searchAll}
-use Rattle.rules.specs.Place.{usedWalk}
+use Rattle.rules.specs.Search.{Found, at, nowhere, lost, find, inTurn}
+use Rattle.rules.specs.Lists.{walk}
+use Rattle.rules.specs.Place.{usedAt, tile}
 
 -- what the record holds beside its links; the cached chunks by their links, oldest first; in use as tasks hold it, and committed, which counts the cached
 -- chunks too
@@ -86,10 +87,10 @@ counted r m e =
 abbrev pub released : Figures → ℕ → List ℕ → ℕ → Figures
 released r i ks n = record { words = r .words; cached = ks; inUse = i; committed = r .committed - n; peak = r .peak; high = r .high; flag = r .flag }
 
-module _ {S : Type 0} (op : Ops S Figures) (places : ℕ) (sound : S → Bool) where
-  -- HANDING OUT: 2. lists from the start class upwards, each from its sentinel's next; n words list at most n / 4 chunks
+module _ {S : Type 0} (op : Ops S Figures) where
+  -- HANDING OUT: 2. the lists from the start class upwards, each from its sentinel's next, and the first chunk in them that has z bytes
   unfoldable pub firstFit : S → ℕ → Found
-  firstFit s z = searchAll (λ j c. findWalk (op .next s) (lengthAt op s) z j (op .count s / 4 - c) (op .next s j) c) (6 - startOf z) (startOf z) 0
+  firstFit s z = find (lengthAt op s) z (inTurn (λ k. walk (op .next s) k (op .count s) (op .next s k)) (6 - startOf z) (startOf z)) 0
 
   -- 3 and 4. the chunk found is unlinked, cut and marked used; the figures follow; its payload, as finally cut, is set to 0. Or no fit
   unfoldable pub fromList : S → ℕ → Found → Outcome S
@@ -112,31 +113,23 @@ module _ {S : Type 0} (op : Ops S Figures) (places : ℕ) (sound : S → Bool) w
   serve s z = fromCache s z (choose (lengthAt op s) z (op .rest s .cached))
 
   -- size bytes asked: 1, 2, 5 in that order, else served
-  unfoldable pub handOut : S → ℕ → Outcome S
-  handOut s size =
-      let served = serve s (roundedOf size) in
-      let tested = pick (sound s) served (says 5 0 0 s) in
-      let small = pick (ltb 4294967284 size) (says 2 0 0 s) tested in
-      pick (eqb size 0) (says 1 0 0 s) small
+  unfoldable pub handOut : (S → Bool) → S → ℕ → Outcome S
+  handOut sound s size = pick (eqb size 0) (says 1 0 0 s) (pick (ltb 4294967284 size) (says 2 0 0 s) (pick (sound s) (serve s (roundedOf size)) (says 5 0 0 s)))
 
   -- TAKING BACK: the length of the live chunk whose payload begins at p, 0 where none does
   unfoldable pub live : S → ℕ → ℕ
-  live s p =
-      let used = usedWalk (op .word s) (op .count s) 0 (p - 4) in
-      let cold = pick (listed (nameOf (p - 4)) (op .rest s .cached)) 0 used in
-      pick (leb 4 p) cold 0
+  live s p = pick (leb 4 p) (pick (listed (nameOf (p - 4)) (op .rest s .cached)) 0 (usedAt (tile (op .word s) (op .count s) 0) (p - 4))) 0
 
   -- the chunks ks cached and tasks holding i bytes; where the chunks are too many, the oldest is released
-  unfoldable pub settled : S → ℕ → List ℕ → S
-  settled s i [] = s
-  settled s i (k ∷ ks) =
+  unfoldable pub settled : ℕ → S → ℕ → List ℕ → S
+  settled places s i [] = s
+  settled places s i (k ∷ ks) =
       let n = lengthAt op s k in
       let off = op .setRest (releaseChunk op s (k - 6) n) (released (op .rest s) i ks n) in
       pick (leb (length (k ∷ ks)) places) (op .setRest s (withCached (op .rest s) i (k ∷ ks))) off
 
   -- payload offset p given back: 5, then 4, else the chunk is cached, and in use falls by its length
-  unfoldable pub takeBack : S → ℕ → Outcome S
-  takeBack s p =
-      let done = says 0 0 0 (settled s (op .rest s .inUse - live s p) (op .rest s .cached ++ nameOf (p - 4) ∷ [])) in
-      let known = pick (eqb (live s p) 0) (says 4 0 0 s) done in
-      pick (sound s) known (says 5 0 0 s)
+  unfoldable pub takeBack : ℕ → (S → Bool) → S → ℕ → Outcome S
+  takeBack places sound s p =
+      let done = says 0 0 0 (settled places s (op .rest s .inUse - live s p) (op .rest s .cached ++ nameOf (p - 4) ∷ [])) in
+      pick (sound s) (pick (eqb (live s p) 0) (says 4 0 0 s) done) (says 5 0 0 s)

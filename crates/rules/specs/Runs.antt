@@ -1,27 +1,16 @@
 -- WHAT DEMAND 3 SPEAKS OF: runs of a heap with the words that its tasks may write, the machine without memory, and what two heaps have in common.
 use mathlib.Core.Path.{_≡_}
-use mathlib.Core.List.{List, _∷_, _++_}
-use Prim.Native.Nat.{ℕ, _+_, _/_, _<_}
+use mathlib.Core.List.{List, _∷_}
+use Prim.Native.Nat.{ℕ, _<_}
 use Rattle.rules.specs.Lists.{Mem}
 use Rattle.rules.specs.Ops.{Ops}
-use Rattle.rules.specs.Chunks.{Chunk, busy, total}
 use Rattle.rules.specs.Tags.{Tag}
 use Rattle.rules.specs.TwoRuns.{Acts}
 use Rattle.rules.specs.TwoRuns as two
-use Rattle.rules.specs.Rules.{Figures, Outcome, nameOf}
+use Rattle.rules.specs.Rules.{Figures, Outcome}
 use Rattle.rules.specs.Machine.{Model, Request, ask, give, Answer, answerOf, callM}
 use Rattle.rules.specs.Sound.{Shows}
-use Rattle.rules.specs.Demands.{hand, back}
-
--- word i lies in the payload of a live chunk of m: used and not cached
-pub record LiveWord (m : Model) (i : ℕ) : Type 0 where
-  pub pre : List Chunk
-  pub size : ℕ
-  pub post : List Chunk
-  pub is : m .cs ≡ pre ++ busy size ∷ post
-  pub low : total pre / 4 < i
-  pub high : i < (total pre + size) / 4
-  pub cold : Mem (nameOf (total pre)) (m .figs .cached) → ⊥
+use Rattle.rules.specs.Demands.{LiveWord, hand, back}
 
 -- the rules without memory as a machine
 abbrev pub machine : ℕ → two.Machine Model Request Answer
@@ -34,10 +23,8 @@ module _ {S : Type 0} (op : Ops S Figures) (most places : ℕ) where
   call (give p) s = back op most places s p
 
   -- word i lies in a payload live at this moment
-  pub record Live (s : S) (i : ℕ) : Type 0 where
-    pub shows : Model
-    pub abs : Shows op most places s shows
-    pub word : LiveWord shows i
+  abbrev pub Live : S → ℕ → Type 0
+  Live s i = (m : Model) × Shows op most places s m × LiveWord m i
 
   -- requests and stores, as runs are made of them
   abbrev pub acts : Acts S Request Answer
@@ -48,7 +35,6 @@ module _ {S : Type 0} (op : Ops S Figures) (most places : ℕ) where
     pub shows : Model
     pub left : Shows op most places s shows
     pub right : Shows op most places t shows
-    pub figures : op .rest s ≡ op .rest t
     pub tags : (i : ℕ) → Tag 0 (shows .cs) i → op .word s i ≡ op .word t i
     pub nexts : (k x : ℕ) → k < 6 → Mem x (k ∷ shows .orders k) → op .next s x ≡ op .next t x
     pub prevs : (k x : ℕ) → k < 6 → Mem x (k ∷ shows .orders k) → op .prev s x ≡ op .prev t x

@@ -26,7 +26,8 @@ unfoldable pub inTurn : (ℕ → List ℕ) → ℕ → ℕ → List ℕ
 inTurn O zero k = []
 inTurn O (suc n) k = O k ++ inTurn O n (suc k)
 
--- the first that has z bytes along the links from x on, until sentinel k comes; at most `fuel` are compared
+-- THE SAME AS THE CODE WALKS, in proofs/Search.antt shown to be it: the first that has z bytes along the links from x on, until sentinel k comes; at most
+-- `fuel` are compared
 unfoldable pub findWalk : (ℕ → ℕ) → (ℕ → ℕ) → ℕ → ℕ → ℕ → ℕ → ℕ → Found
 findWalk nx size z k zero x c = pick (eqb x k) (nowhere c) lost
 findWalk nx size z k (suc fuel) x c =

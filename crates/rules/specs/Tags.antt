@@ -12,14 +12,11 @@ abbrev pub headTag : List Chunk → ℕ
 headTag [] = 2
 headTag (c ∷ cs) = c .len + 2 * bit (c .used)
 
--- a free chunk's last word is its length
-abbrev pub Foot : (ℕ → ℕ) → ℕ → Chunk → Type 0
-Foot f b c = c .used ≡ false → f ((b + c .len) / 4 - 1) ≡ c .len
-
--- header by header, up to the guard
+-- header by header, with the last word of each free chunk, up to the guard
 abbrev pub Tags : (ℕ → ℕ) → ℕ → Bool → List Chunk → Type 0
 Tags f b l [] = f (b / 4) ≡ 2 + bit l
-Tags f b l (c ∷ cs) = (f (b / 4) ≡ headTag (c ∷ cs) + bit l) × Foot f b c × Tags f (b + c .len) (c .used) cs
+Tags f b l (c ∷ cs) =
+    (f (b / 4) ≡ c .len + 2 * bit (c .used) + bit l) × (c .used ≡ false → f ((b + c .len) / 4 - 1) ≡ c .len) × Tags f (b + c .len) (c .used) cs
 
 -- word i is a header, the footer of a free chunk, or the guard
 abbrev pub Tag : ℕ → List Chunk → ℕ → Type 0

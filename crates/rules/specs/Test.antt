@@ -5,25 +5,21 @@ use mathlib.Core.List.{List, [], _∷_}
 use Prim.Native.Nat.{ℕ, zero, suc, _+_, _-_, _*_, _/_, _%_}
 use lib.Dec.{eqb, leb}
 use Rattle.words.specs.Choice.{pick, bit}
-use Rattle.rules.specs.Chunks.{Chunk, total, usedHead, either, usedSum}
+use Rattle.rules.specs.Chunks.{Chunk, total, usedHead, usedSum}
 use lib.ListN.{length}
 use Rattle.rules.specs.Lists.{walk}
 use Rattle.rules.specs.Exact.{Slot, frees}
 use Rattle.rules.specs.Tags.{headTag}
-use Rattle.rules.specs.Place.{usedAt}
+use Rattle.rules.specs.Place.{usedAt, tile}
 use Rattle.words.specs.Sizes.{classOf}
 use Rattle.rules.specs.Ops.{Ops}
 use Rattle.rules.specs.Rules.{Figures, byteOf, listed}
 use Rattle.rules.specs.Machine.{Model}
 use Rattle.rules.specs.Sound.{liveSum}
 
--- the chunks that the headers give, from byte e on
-unfoldable pub tile : (ℕ → ℕ) → ℕ → ℕ → List Chunk
-tile f zero e = []
-tile f (suc fuel) e =
-    let n = f (e / 4) / 4 * 4 in
-    let r : List Chunk = record { len = n; used = pick (eqb (f (e / 4) / 2 % 2) 0) false true } ∷ tile f fuel (e + n) in
-    pick (eqb n 0) [] r
+-- one or the other
+abbrev pub either : Bool → Bool → Bool
+either a b = pick a true b
 
 -- one and the other
 abbrev pub both : Bool → Bool → Bool

@@ -3,10 +3,6 @@ use mathlib.Core.List.{List, map}
 use Prim.Native.Nat.{ℕ}
 use Rattle.words.specs.declared.names.Link.{Link}
 
--- the number of a link
-abbrev pub number : Link → ℕ
-number l = l .0
-
 -- the numbers of an array of links
 abbrev pub numbers : List Link → List ℕ
-numbers ls = map number ls
+numbers ls = map (λ (l : Link). l .0) ls

@@ -1,5 +1,5 @@
 -- ROUNDING, CLASSES, THRESHOLD (document 01, under that heading).
-use Prim.Native.Nat.{ℕ, zero, suc, _+_, _-_, _*_, _/_, min, max}
+use Prim.Native.Nat.{ℕ, _+_, _-_, _*_, _/_, min, max}
 use lib.Dec.{leb}
 use lib.Count.{leadingZeros}
 use Rattle.words.specs.Choice.{pick}
@@ -20,15 +20,6 @@ classByZeros n = min (27 - leadingZeros 32 n) 5
 abbrev pub startOf : ℕ → ℕ
 startOf s = min (classOf s + 1) 5
 
--- the least length of a class
-abbrev pub leastOf : ℕ → ℕ
-leastOf zero = 0
-leastOf (suc zero) = 32
-leastOf (suc (suc zero)) = 64
-leastOf (suc (suc (suc zero))) = 128
-leastOf (suc (suc (suc (suc zero)))) = 256
-leastOf (suc (suc (suc (suc (suc k))))) = 512
-
 -- threshold: below 512, the next power of two above s; from 512, s itself
 abbrev pub thresholdOf : ℕ → ℕ
-thresholdOf s = pick (leb 512 s) s (leastOf (suc (classOf s)))
+thresholdOf s = pick (leb 512 s) s (pick (leb 256 s) 512 (pick (leb 128 s) 256 (pick (leb 64 s) 128 (pick (leb 32 s) 64 32))))

@@ -12,7 +12,7 @@ write-map-requires : tie.Need-write-map-requires
 write-map-requires c κs = search needs
 
 map-reply-requires : tie.Need-map-reply-requires
-map-reply-requires c κs = answer-counted (c .before .before .write-map .result) _ _ _ (c .before .before .write-map .ensures)
+map-reply-requires c κs = answer-counted _ (c .before .before .write-map .result) _ _ _ (c .before .before .write-map .ensures)
 
 same-length : tie.Need-same-length
 same-length c = search needs

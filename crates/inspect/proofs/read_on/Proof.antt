@@ -30,10 +30,13 @@ same-length c = search needs
 
 returns : tie.Need-returns
 returns c =
-    let entry = c .before .before .before .before .before .before .before .before .before .before in
-    let count = c .before .before .count in
+    let at-count = c .before .before in
+    let at-read = at-count .before .before .before .before in
+    let at-here = at-read .before .before .before .before in
+    let entry = at-here in
+    let count = at-count .count in
     let part = mid-len (entry .args .before .len) (length (entry .args .text .now)) (entry .args .text .now) (omega arith) in
-    (omega arith, omega (arith, count .ensures .0 .0, part, c .before .before .before .before .before .before .read .kept .1 .0, entry .pre), λ e. omega (arith, ltb-true 0 (count .result) e))
+    (omega arith, omega (arith, count .ensures .0 .0, part, at-read .read .kept .1 .0, entry .pre), λ e. omega (arith, ltb-true 0 (count .result) e))
 
 pub read-on-spec : {M : Type 1} → statement M
 read-on-spec =

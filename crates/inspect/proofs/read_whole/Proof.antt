@@ -1,5 +1,5 @@
 -- `inspect::read_whole` meets its contract. Measure: the room that is left, and one turn more.
-use mathlib.Core.Path.{_≡_, refl, sym, _∙_}
+use mathlib.Core.Path.{_≡_, refl}
 use mathlib.Core.Bool.{Bool, true, false}
 use Prim.Native.Nat.{ℕ, _+_, _-_, _≤_, _<_}
 use native.Mathlib.Omega.{arith}
@@ -29,7 +29,9 @@ read-on-requires c κs = search needs
 loop-less : tie.Need-loop-less Inv-loop μ-loop
 loop-less c =
     let read = c .before .before .read-on in
-    rw (read .kept .1 .0) (turns-less (length (c .before .before .before .before .before .loop .text)) (c .before .before .before .before .before .loop .w .len) (read .result .len) (c .before .before .before .before .before .loop .w .more) (read .result .more) (read .ensures .1) (read .ensures .0) (read .ensures .2) (c .before .before .before .before .loop-test .taken))
+    let was = c .before .before .before .before .before .loop in
+    let less = turns-less (length (was .text)) (was .w .len) (read .result .len) (was .w .more) (read .result .more) in
+    rw (read .kept .1 .0) (less (read .ensures .1) (read .ensures .0) (read .ensures .2) (c .before .before .before .before .loop-test .taken))
 
 loop-again : tie.Need-loop-again Inv-loop μ-loop
 loop-again c = search needs

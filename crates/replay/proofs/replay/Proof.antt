@@ -53,25 +53,34 @@ loop-less : tie.Need-loop-less Inv-loop μ-loop
 loop-less c =
     let at-next = c .before .before .before .before .before .before .before .before .before .before .before .before .before .before .before .before .before in
     let at-loop = at-next .before .before .before .before .before in
-    turns-less (at-next .next .result) (at-next .next .ensures) refl (c .before .before .before .before .before .before .before .before .before .before .before .before .before .before .before .before .before .before .before .before .before .loop-test .taken) (λ e. e)
+    turns-less (at-next .next .result) (at-next .next .ensures) refl
+    (at-next .before .before .before .before .loop-test .taken)
+    (λ e. e)
 
 loop-again : tie.Need-loop-again Inv-loop μ-loop
 loop-again c =
     let at-next = c .before .before .before .before .before .before .before .before .before .before .before .before .before .before .before .before .before in
-    let at-loop = at-next .before .before .before .before .before in
-    (at-next .next .kept .1 .0 ∙ at-loop .loop .inv .0, at-next .next .kept .1 .1 .0 ∙ at-loop .loop .inv .1, c .before .before .before .before .before .show .kept .0 ∙ at-next .next .kept .1 .1 .1 .0 ∙ at-loop .loop .inv .2)
+    let at-loop = at-next .before .before .before .before .before in (
+      at-next .next .kept .1 .0 ∙ at-loop .loop .inv .0,
+      at-next .next .kept .1 .1 .0 ∙ at-loop .loop .inv .1,
+      c .before .before .before .before .before .show .kept .0 ∙ at-next .next .kept .1 .1 .1 .0 ∙ at-loop .loop .inv .2,
+    )
 
 loop-less-2 : tie.Need-loop-less-2 Inv-loop μ-loop
 loop-less-2 c =
     let at-next = c .before .before .before .before .before .before .before .before in
     let at-loop = at-next .before .before .before .before .before in
-    turns-less (at-next .next .result) (at-next .next .ensures) refl (c .before .before .before .before .before .before .before .before .before .before .before .before .loop-test .taken) (λ e. e)
+    turns-less (at-next .next .result) (at-next .next .ensures) refl
+    (at-next .before .before .before .before .loop-test .taken) (λ e. e)
 
 loop-again-2 : tie.Need-loop-again-2 Inv-loop μ-loop
 loop-again-2 c =
     let at-next = c .before .before .before .before .before .before .before .before in
-    let at-loop = at-next .before .before .before .before .before in
-    (at-next .next .kept .1 .0 ∙ at-loop .loop .inv .0, at-next .next .kept .1 .1 .0 ∙ at-loop .loop .inv .1, at-next .next .kept .1 .1 .1 .0 ∙ at-loop .loop .inv .2)
+    let at-loop = at-next .before .before .before .before .before in (
+      at-next .next .kept .1 .0 ∙ at-loop .loop .inv .0,
+      at-next .next .kept .1 .1 .0 ∙ at-loop .loop .inv .1,
+      at-next .next .kept .1 .1 .1 .0 ∙ at-loop .loop .inv .2,
+    )
 
 same-length-4 : tie.Need-same-length-4 Inv-loop μ-loop
 same-length-4 c = c .before .loop .inv .0

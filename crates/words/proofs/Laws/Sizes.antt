@@ -8,7 +8,7 @@
 --     threshold-above, threshold-from   it is above a size below 512, and never below the size
 --     threshold-reached, threshold-class     below 512 a length reaches it exactly if its class is higher
 --     class-by-zeros                    counted by leading zeros the class is the same, for every 32-bit length
-use mathlib.Core.Path.{_≡_, refl, sym}
+use mathlib.Core.Path.{_≡_, refl, sym, ap, _∙_}
 use Prim.Native.Nat.{ℕ, zero, suc, _+_, _*_, _/_, _^_, _≤_, _<_, min}
 use native.Mathlib.Nat.{le-refl, le-trans, pow-suc, le-of-suc-le-suc}
 use native.Mathlib.Omega.{arith, by-contra}
@@ -16,10 +16,19 @@ use lib.Count.{leadingZeros, leading-length}
 use lib.Dec.{lit<}
 use lib.Pow.{pow-mono}
 use borrow.Author.Tests.{le-leb, lt-leb}
-use Rattle.words.specs.Sizes.{classOf, classByZeros, leastOf, thresholdOf}
+use Rattle.words.specs.Sizes.{classOf, classByZeros, thresholdOf}
 use Rattle.words.proofs.Laws.Choice.{by-cases, by-order}
 
 -- ---- classes
+
+-- the least length of a class
+abbrev pub leastOf : ℕ → ℕ
+leastOf zero = 0
+leastOf (suc zero) = 32
+leastOf (suc (suc zero)) = 64
+leastOf (suc (suc (suc zero))) = 128
+leastOf (suc (suc (suc (suc zero)))) = 256
+leastOf (suc (suc (suc (suc (suc k))))) = 512
 
 -- the class counts the doublings from 32 that a length reaches
 pub class-counts : (n : ℕ) → classOf n ≡ min (n / 32) 1 + min (n / 64) 1 + min (n / 128) 1 + min (n / 256) 1 + min (n / 512) 1
@@ -71,9 +80,19 @@ class-mono m n h = class-reaches (classOf m) n (class-below m) (le-trans (least-
 
 -- ---- thresholds
 
--- below 512 the threshold is the least length of the next class
+-- below 512 the threshold is the least length of the next class, range by range
+next-least : (s : ℕ) → s < 512 → leastOf (suc (classOf s)) ≡ thresholdOf s
+unfolding classOf
+next-least s h =
+    by-cases 256 s (λ a. rw (lt-leb 512 s h, le-leb 256 s a, le-leb 128 s (omega arith), le-leb 64 s (omega arith), le-leb 32 s (omega arith)) refl) (λ a.
+    by-cases 128 s (λ b. rw (lt-leb 512 s h, lt-leb 256 s a, le-leb 128 s b, le-leb 64 s (omega arith), le-leb 32 s (omega arith)) refl) (λ b.
+    by-cases 64 s (λ c. rw (lt-leb 512 s h, lt-leb 256 s a, lt-leb 128 s b, le-leb 64 s c, le-leb 32 s (omega arith)) refl) (λ c.
+    by-cases 32 s (λ d. rw (lt-leb 512 s h, lt-leb 256 s a, lt-leb 128 s b, lt-leb 64 s c, le-leb 32 s d) refl)
+    (λ d. rw (lt-leb 512 s h, lt-leb 256 s a, lt-leb 128 s b, lt-leb 64 s c, lt-leb 32 s d) refl))))
+
+-- so for the class k of s
 pub threshold-small : (s k : ℕ) → s < 512 → k ≡ classOf s → leastOf (suc k) ≡ thresholdOf s
-threshold-small s k h e = rw (lt-leb 512 s h, e)
+threshold-small s k h e = ap (λ (j : ℕ). leastOf (suc j)) e ∙ next-least s h
 
 -- so it is where the range of one of the first five classes ends
 pub threshold-is : (s k : ℕ) → k < 5 → leastOf k ≤ s → s < leastOf (suc k) → leastOf (suc k) ≡ thresholdOf s

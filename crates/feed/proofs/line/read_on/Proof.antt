@@ -12,7 +12,10 @@ with-all-requires : tie.Need-with-all-requires
 with-all-requires c κs = search needs
 
 returns : tie.Need-returns
-returns c = (read-open-by _ _ (c .before .before .before .before .args .input .now) _ (c .before .before .until-feed .ensures) (c .before .if1 .taken) (c .with-all .ensures), omega arith, omega arith)
+returns c =
+    let at-until-feed = c .before .before in
+    let entry = at-until-feed .before .before in
+    (read-open-by _ _ (entry .args .input .now) _ (at-until-feed .until-feed .ensures) (c .before .if1 .taken) (c .with-all .ensures), omega arith, omega arith)
 
 sub-frame-with : tie.Need-sub-frame-with
 sub-frame-with c = search needs
@@ -33,7 +36,15 @@ add-t14 : tie.Need-add-t14
 add-t14 c = search needs
 
 returns-2 : tie.Need-returns-2
-returns-2 c = (read-fed-by _ _ (c .before .before .before .before .before .before .args .input .now) _ _ (c .before .before .before .before .until-feed .ensures) (omega (arith, c .before .before .before .if1 .left)) (c .before .frame-with .ensures) (c .none .ensures), omega arith, omega arith)
+returns-2 c =
+    let at-1 = c .before .before .before in
+    let at-until-feed = at-1 .before in
+    let entry = at-until-feed .before .before in (
+      read-fed-by _ _ (entry .args .input .now) _ _ (at-until-feed .until-feed .ensures) (omega (arith, at-1 .if1 .left)) (c .before .frame-with .ensures)
+          (c .none .ensures),
+      omega arith,
+      omega arith,
+    )
 
 pub read-on-spec : {M : Type 1} → statement M
 read-on-spec =

@@ -23,7 +23,10 @@ shared-slice-read-if1 : tie.Need-shared-slice-read-if1 Inv-loop μ-loop
 shared-slice-read-if1 c = search needs
 
 returns : tie.Need-returns Inv-loop μ-loop
-returns c = sym (c .before .before .before .loop .inv .0 ∙ ap (λ (n : ℕ). c .before .before .before .loop .k + n) (until-fed _ _ (c .before .before .loop-test .taken) (c .if1 .taken)) ∙ add-zero _)
+returns c =
+    let at-loop-test = c .before .before in
+    let at-loop = at-loop-test .before in
+    sym (at-loop .loop .inv .0 ∙ ap (λ (n : ℕ). at-loop .loop .k + n) (until-fed _ _ (at-loop-test .loop-test .taken) (c .if1 .taken)) ∙ add-zero _)
 
 add-k : tie.Need-add-k Inv-loop μ-loop
 add-k c = search needs
@@ -32,7 +35,13 @@ loop-less : tie.Need-loop-less Inv-loop μ-loop
 loop-less c = search needs
 
 loop-again : tie.Need-loop-again Inv-loop μ-loop
-loop-again c = (c .before .before .before .loop .inv .0 ∙ omega (arith, until-more (c .before .before .before .before .args .input .now) (c .before .before .before .loop .k) (c .before .before .loop-test .taken) (c .if1 .left)), omega arith)
+loop-again c =
+    let at-loop-test = c .before .before in
+    let at-loop = at-loop-test .before in
+    let entry = at-loop .before in (
+      at-loop .loop .inv .0 ∙ omega (arith, until-more (entry .args .input .now) (at-loop .loop .k) (at-loop-test .loop-test .taken) (c .if1 .left)),
+      omega arith,
+    )
 
 returns-2 : tie.Need-returns-2 Inv-loop μ-loop
 returns-2 c = sym (c .before .loop .inv .0 ∙ ap (λ (n : ℕ). c .before .loop .k + n) (until-end _ _ (c .loop-test .left)) ∙ add-zero _)

@@ -30,8 +30,11 @@ add-taken c = search needs
 answer-requires : tie.Need-answer-requires
 answer-requires c κs = search needs
 
-add-t25 : tie.Need-add-t25
-add-t25 c = omega (arith, c .before .before .before .before .before .before .before .before .before .before .before .before .before .before .before .before .before .before .pre .1, c .before .before .before .before .before .before .before .before .before .before .before .before .before .before .before .before .before .before .good)
+add-t26 : tie.Need-add-t26
+add-t26 c =
+    let entry =
+    c .before .before .before .before .before .before .before .before .before .before .before .before .before .before .before .before .before .before in
+    omega (arith, entry .pre .1, entry .good)
 
 same-length : tie.Need-same-length
 same-length c = search needs
@@ -41,27 +44,35 @@ same-length-2 c = search needs
 
 returns : tie.Need-returns
 returns c =
-    let stood = stands (c .before .before .before .before .before .before .before .before .before .before .before .before .before .before .before .before .before .before .args .fed) (c .before .before .before .before .before .before .before .before .before .before .before .before .before .before .before .before .before .before .args .memory .now) (c .before .before .before .before .before .before .before .before .before .before .before .before .before .before .before .before .before .before .args .out .now) in
-    let read = read-rest _ (c .before .before .before .before .before .before .before .before .before .before .before .before .before .before .before .before .before .before .args .input .now) (c .before .before .before .before .before .before .before .before .before .before .before .before .before .before .before .before .before .before .args .fed .taken) (c .before .before .before .before .before .before .before .before .before .before .read-on .result) (c .before .before .before .before .before .before .before .before .before .before .read-on .ensures .0) in
-    let part = length-take-le (length (c .before .before .before .before .before .before .before .before .before .before .before .before .before .before .before .before .before .before .args .input .now) - c .before .before .before .before .before .before .before .before .before .before .before .before .before .before .before .before .before .before .args .fed .taken) (drop (c .before .before .before .before .before .before .before .before .before .before .before .before .before .before .before .before .before .before .args .fed .taken) (c .before .before .before .before .before .before .before .before .before .before .before .before .before .before .before .before .before .before .args .input .now)) (omega (arith, length-drop (c .before .before .before .before .before .before .before .before .before .before .before .before .before .before .before .before .before .before .args .fed .taken) (c .before .before .before .before .before .before .before .before .before .before .before .before .before .before .before .before .before .before .args .input .now))) in (
-      took-whole stood _ _ read _ _ (c .before .before .before .before .before .before .before .if1 .taken) (c .before .before .before .before .answer .ensures),
+    let at-answer = c .before .before .before .before in
+    let at-1 = at-answer .before .before .before in
+    let at-read-on = at-1 .before .before .before in
+    let entry = at-read-on .before .before .before .before .before .before .before .before in
+    let stood = stands (entry .args .fed) (entry .args .memory .now) (entry .args .out .now) in
+    let read = read-rest _ (entry .args .input .now) (entry .args .fed .taken) (at-read-on .read-on .result) (at-read-on .read-on .ensures .0) in
+    let part = length-take-le (length (entry .args .input .now) - entry .args .fed .taken) (drop (entry .args .fed .taken) (entry .args .input .now))
+    (omega (arith, length-drop (entry .args .fed .taken) (entry .args .input .now))) in (
+      took-whole _ stood _ _ read _ _ (at-1 .if1 .taken) (at-answer .answer .ensures),
       ap (λ (x : Reading). x .rest) read,
-      omega (arith, c .before .before .before .before .before .before .before .before .before .before .read-on .ensures .1, part, c .before .before .before .before .before .before .before .before .before .before .before .before .before .before .before .before .before .before .pre .0),
-      omega (arith, c .before .before .before .before .before .before .before .before .before .before .read-on .ensures .2, part, c .before .before .before .before .before .before .before .before .before .before .before .before .before .before .before .before .before .before .pre .0),
-      c .before .before .before .before .before .before .before .before .before .before .before .before .before .before .before .before .before .before .pre .1,
-      le-refl (c .before .before .before .before .before .before .before .before .before .before .before .before .before .before .before .before .before .before .args .fed .filled + 19),
+      omega (arith, at-read-on .read-on .ensures .1, part, entry .pre .0),
+      omega (arith, at-read-on .read-on .ensures .2, part, entry .pre .0),
+      entry .pre .1,
+      le-refl (entry .args .fed .filled + 19),
     )
 
 returns-2 : tie.Need-returns-2
 returns-2 c =
-    let stood = stands (c .before .before .before .before .before .before .before .before .before .before .before .args .fed) (c .before .before .before .before .before .before .before .before .before .before .before .args .memory .now) (c .before .before .before .before .before .before .before .before .before .before .before .args .out .now) in
-    let read = read-rest _ (c .before .before .before .before .before .before .before .before .before .before .before .args .input .now) (c .before .before .before .before .before .before .before .before .before .before .before .args .fed .taken) (c .before .before .before .read-on .result) (c .before .before .before .read-on .ensures .0) in
-    let part = length-take-le (length (c .before .before .before .before .before .before .before .before .before .before .before .args .input .now) - c .before .before .before .before .before .before .before .before .before .before .before .args .fed .taken) (drop (c .before .before .before .before .before .before .before .before .before .before .before .args .fed .taken) (c .before .before .before .before .before .before .before .before .before .before .before .args .input .now)) (omega (arith, length-drop (c .before .before .before .before .before .before .before .before .before .before .before .args .fed .taken) (c .before .before .before .before .before .before .before .before .before .before .before .args .input .now))) in (
-      took-open stood _ _ read (c .if1 .left),
+    let at-read-on = c .before .before .before in
+    let entry = at-read-on .before .before .before .before .before .before .before .before in
+    let stood = stands (entry .args .fed) (entry .args .memory .now) (entry .args .out .now) in
+    let read = read-rest _ (entry .args .input .now) (entry .args .fed .taken) (at-read-on .read-on .result) (at-read-on .read-on .ensures .0) in
+    let part = length-take-le (length (entry .args .input .now) - entry .args .fed .taken) (drop (entry .args .fed .taken) (entry .args .input .now))
+    (omega (arith, length-drop (entry .args .fed .taken) (entry .args .input .now))) in (
+      took-open _ stood _ _ read (c .if1 .left),
       ap (λ (x : Reading). x .rest) read,
-      omega (arith, c .before .before .before .read-on .ensures .1, part, c .before .before .before .before .before .before .before .before .before .before .before .pre .0),
-      omega (arith, c .before .before .before .read-on .ensures .2, part, c .before .before .before .before .before .before .before .before .before .before .before .pre .0),
-      omega (arith, c .before .before .before .before .before .before .before .before .before .before .before .pre .1),
+      omega (arith, at-read-on .read-on .ensures .1, part, entry .pre .0),
+      omega (arith, at-read-on .read-on .ensures .2, part, entry .pre .0),
+      omega (arith, entry .pre .1),
       omega arith,
     )
 
@@ -75,7 +86,7 @@ one-line-spec =
     read-on-requires
     add-taken
     answer-requires
-    add-t25
+    add-t26
     same-length
     same-length-2
     returns

@@ -1,7 +1,6 @@
 -- `stream::step::next` meets its contract: the piece is the one that the read's answer says.
 use mathlib.Core.Path.{refl}
 use mathlib.Core.List.{[]}
-use native.Mathlib.Omega.{arith}
 use borrow.Author.Needs.{needs}
 use Rattle.stream.proofs.Laws.{takes-end}
 use Rattle.stream.proofs.step.next.Statement.{statement}

@@ -56,14 +56,18 @@ same-length-2 c = search needs
 
 returns-3 : tie.Need-returns-3
 returns-3 c =
-    let fits : SFits w64 (c .before .before .before .before .before .before .before .before .before .before .before .before .before .before .before .before .before .before .args .got) = search (needs, c .before .before .before .before .before .before .before .before .before .before .before .before .before .before .before .before .before .before .fits) in
-    let entry = c .before .before .before .before .before .before .before .before .before .before .before .before .before .before .before .before .before .before in
-    let counted = counted-as (entry .args .got) _ (length (entry .args .input .now)) fits (c .before .before .before .before .before .before .before .before .before .before .before .before .before .before .count .ensures .1) in
-    let said = c .before .before .before .before .before .before .feed .ensures in
-    let some : 0 < c .before .before .before .before .before .before .before .before .before .before .before .before .before .before .count .result = omega (arith, c .before .before .before .before .before .before .before .before .before .before .before .before .before .if1 .left) in
-    let left : c .before .before .before .before .before .before .before .before .before .before .before .before .before .before .count .result ≤ entry .args .before .left = omega (arith, c .before .before .before .before .before .before .before .before .before .before .before .if2 .left) in (
-      takes-fed (entry .args .before) (c .before .before .before .before .before .before .feed .result) (entry .args .got) _ _ (entry .args .input .now) (entry .args .out .now) _ _
-          counted (c .before .before .before .before .before .before .before .before .before .before .before .before .before .before .count .ensures .0 .0) some left (entry .pre) (c .before .before .before .before .before .before .feed .kept .1 .1 .1 .0)
+    let at-feed = c .before .before .before .before .before .before in
+    let at-2 = at-feed .before .before .before .before .before in
+    let at-1 = at-2 .before .before in
+    let at-count = at-1 .before in
+    let entry = at-count .before .before .before .before in
+    let fits : SFits w64 (entry .args .got) = search (needs, entry .fits) in
+    let counted = counted-as (entry .args .got) _ (length (entry .args .input .now)) fits (at-count .count .ensures .1) in
+    let said = at-feed .feed .ensures in
+    let some : 0 < at-count .count .result = omega (arith, at-1 .if1 .left) in
+    let left : at-count .count .result ≤ entry .args .before .left = omega (arith, at-2 .if2 .left) in (
+      takes-fed (entry .args .before) (at-feed .feed .result) (entry .args .got) _ _ (entry .args .input .now) (entry .args .out .now) _ _
+          counted (at-count .count .ensures .0 .0) some left (entry .pre) (at-feed .feed .kept .1 .1 .1 .0)
           (said .0) (said .2) (said .3) (said .4) (said .1),
       λ e. absurd (false≢true (sym e)),
     )

@@ -4,17 +4,18 @@ use mathlib.Core.Bool.{false≢true}
 use native.Mathlib.Omega.{arith}
 use lib.ListN.{length}
 use borrow.Author.Needs.{needs}
+use Rattle.heap.specs.Kind.{placesOf}
 use Rattle.stream.specs.Ran.{Going}
 use Rattle.stream.proofs.Laws.{going-first, going-on, turnsLeft, turns-less, going-fits}
 use Rattle.stream.proofs.whole.read_all.Statement.{statement}
 use Rattle.stream.proofs.whole.read_all.Tie as tie
 
 abbrev Inv-loop : tie.InvT-loop
-Inv-loop memory₀ input₀ out₀ answering s₀ memory input out s =
-    Going answering memory₀ s memory × (length memory ≡ length memory₀) × (length input ≡ length input₀) × (length out ≡ length out₀)
+Inv-loop memory₀ input₀ out₀ answering kind s₀ memory input out s =
+    Going (placesOf kind) answering memory₀ s memory × (length memory ≡ length memory₀) × (length input ≡ length input₀) × (length out ≡ length out₀)
 
 abbrev μ-loop : tie.MeasureT-loop
-μ-loop memory₀ input₀ out₀ answering s₀ memory input out s = turnsLeft s
+μ-loop memory₀ input₀ out₀ answering kind s₀ memory input out s = turnsLeft s
 
 start-requires : tie.Need-start-requires Inv-loop μ-loop
 start-requires c κs = search needs
@@ -26,29 +27,43 @@ next-requires : tie.Need-next-requires Inv-loop μ-loop
 next-requires c κs = search needs
 
 write-requires : tie.Need-write-requires Inv-loop μ-loop
-write-requires c κs = (c .before .before .before .before .before .before .before .before .next .ensures .takes .fits, going-fits (c .before .before .before .before .before .before .before .before .before .before .before .before .before .loop .inv .0) (c .before .before .before .before .before .before .before .before .next .ensures))
+write-requires c κs =
+    let at-next = c .before .before .before .before .before .before .before .before in
+    let at-loop = at-next .before .before .before .before .before in
+    (at-next .next .ensures .takes .fits, going-fits (at-loop .loop .inv .0) (at-next .next .ensures))
 
 loop-less : tie.Need-loop-less Inv-loop μ-loop
-loop-less c = turns-less (c .write .result) (c .before .before .before .before .before .before .before .before .before .next .ensures) (c .write .ensures .left) (c .before .before .before .before .before .before .before .before .before .before .before .before .before .loop-test .taken) (c .write .ensures .goes)
+loop-less c =
+    let at-next = c .before .before .before .before .before .before .before .before .before in
+    let at-loop-test = at-next .before .before .before .before in
+    turns-less (c .write .result) (at-next .next .ensures) (c .write .ensures .left) (at-loop-test .loop-test .taken) (c .write .ensures .goes)
 
 loop-again : tie.Need-loop-again Inv-loop μ-loop
-loop-again c = (
-  going-on _ _ (c .before .before .before .before .before .before .before .before .before .before .before .before .before .before .loop .inv .0) (c .before .before .before .before .before .before .before .before .before .next .ensures) (c .write .ensures .trace) (c .write .ensures .left) (c .write .ensures .written) (λ _. refl) (omega arith),
-  c .before .before .before .before .before .before .before .before .before .next .kept .1 .0 ∙ c .before .before .before .before .before .before .before .before .before .before .before .before .before .before .loop .inv .1,
-  c .before .before .before .before .before .before .before .before .before .next .kept .1 .1 .0 ∙ c .before .before .before .before .before .before .before .before .before .before .before .before .before .before .loop .inv .2,
-  c .before .before .before .before .before .before .before .before .before .next .kept .1 .1 .1 .0 ∙ c .before .before .before .before .before .before .before .before .before .before .before .before .before .before .loop .inv .3,
-)
+loop-again c =
+    let at-next = c .before .before .before .before .before .before .before .before .before in
+    let at-loop = at-next .before .before .before .before .before in (
+      going-on _ _ (at-loop .loop .inv .0) (at-next .next .ensures) (c .write .ensures .trace) (c .write .ensures .left) (c .write .ensures .written)
+          (λ _. refl) (omega arith),
+      at-next .next .kept .1 .0 ∙ at-loop .loop .inv .1,
+      at-next .next .kept .1 .1 .0 ∙ at-loop .loop .inv .2,
+      at-next .next .kept .1 .1 .1 .0 ∙ at-loop .loop .inv .3,
+    )
 
 loop-less-2 : tie.Need-loop-less-2 Inv-loop μ-loop
-loop-less-2 c = turns-less (c .before .before .before .before .before .before .before .next .result) (c .before .before .before .before .before .before .before .next .ensures) refl (c .before .before .before .before .before .before .before .before .before .before .before .loop-test .taken) (λ e. e)
+loop-less-2 c =
+    let at-next = c .before .before .before .before .before .before .before in
+    let at-loop-test = at-next .before .before .before .before in
+    turns-less (at-next .next .result) (at-next .next .ensures) refl (at-loop-test .loop-test .taken) (λ e. e)
 
 loop-again-2 : tie.Need-loop-again-2 Inv-loop μ-loop
-loop-again-2 c = (
-  going-on _ 0 (c .before .before .before .before .before .before .before .before .before .before .before .before .loop .inv .0) (c .before .before .before .before .before .before .before .next .ensures) refl refl (omega arith) (λ b. absurd (false≢true (sym (c .if1 .left) ∙ b))) (omega arith),
-  c .before .before .before .before .before .before .before .next .kept .1 .0 ∙ c .before .before .before .before .before .before .before .before .before .before .before .before .loop .inv .1,
-  c .before .before .before .before .before .before .before .next .kept .1 .1 .0 ∙ c .before .before .before .before .before .before .before .before .before .before .before .before .loop .inv .2,
-  c .before .before .before .before .before .before .before .next .kept .1 .1 .1 .0 ∙ c .before .before .before .before .before .before .before .before .before .before .before .before .loop .inv .3,
-)
+loop-again-2 c =
+    let at-next = c .before .before .before .before .before .before .before in
+    let at-loop = at-next .before .before .before .before .before in (
+      going-on _ 0 (at-loop .loop .inv .0) (at-next .next .ensures) refl refl (omega arith) (λ b. absurd (false≢true (sym (c .if1 .left) ∙ b))) (omega arith),
+      at-next .next .kept .1 .0 ∙ at-loop .loop .inv .1,
+      at-next .next .kept .1 .1 .0 ∙ at-loop .loop .inv .2,
+      at-next .next .kept .1 .1 .1 .0 ∙ at-loop .loop .inv .3,
+    )
 
 same-length : tie.Need-same-length Inv-loop μ-loop
 same-length c = search needs

@@ -20,7 +20,9 @@ same-length : tie.Need-same-length
 same-length c = search needs
 
 returns : tie.Need-returns
-returns c = answered-failed (c .before .before .before .before .before .read-all .ensures) (c .if1 .taken)
+returns c =
+    let at-read-all = c .before .before .before .before .before in
+    answered-failed (at-read-all .read-all .ensures) (c .if1 .taken)
 
 slice-aggregate-finish : tie.Need-slice-aggregate-finish
 slice-aggregate-finish c = search needs
@@ -32,13 +34,17 @@ same-length-2 : tie.Need-same-length-2
 same-length-2 c = search needs
 
 returns-2 : tie.Need-returns-2
-returns-2 c = answered-all (c .before .finish .result) (c .before .before .before .before .before .before .before .before .before .read-all .ensures) (c .before .finish .ensures)
+returns-2 c =
+    let at-read-all = c .before .before .before .before .before .before .before .before .before in
+    answered-all (c .before .finish .result) (at-read-all .read-all .ensures) (c .before .finish .ensures)
 
 same-length-3 : tie.Need-same-length-3
 same-length-3 c = search needs
 
 returns-3 : tie.Need-returns-3
-returns-3 c = answered-quiet (c .before .before .before .before .before .before .read-all .ensures) (c .if2 .left)
+returns-3 c =
+    let at-read-all = c .before .before .before .before .before .before in
+    answered-quiet (at-read-all .read-all .ensures) (c .if2 .left)
 
 pub run-spec : {M : Type 1} → statement M
 run-spec =

@@ -1,3 +1,4 @@
+-- `feed::line::Begun::frame` meets its contract: eleven bytes are no frame.
 use Rattle.feed.proofs.Laws.{long-line}
 use native.Mathlib.Omega.{arith}
 use mathlib.Core.Path.{_≡_, ap, _∙_}

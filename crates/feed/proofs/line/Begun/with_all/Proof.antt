@@ -1,7 +1,6 @@
 -- `feed::line::Begun::with_all` meets its contract. Invariant: the bytes from k on are still to be kept. Measure: how many they are.
 use mathlib.Core.Path.{_≡_, refl, sym, _∙_}
 use Prim.Native.Nat.{_-_}
-use native.Mathlib.Omega.{arith}
 use lib.ListN.{length, drop}
 use borrow.Author.Needs.{needs}
 use borrow.Author.Tests.{ltb-false}
@@ -32,10 +31,17 @@ loop-less : tie.Need-loop-less Inv-loop μ-loop
 loop-less c = search needs
 
 loop-again : tie.Need-loop-again Inv-loop μ-loop
-loop-again c = (c .before .before .before .before .before .loop .inv .0 ∙ keeps-on _ _ (c .before .before .before .before .before .before .before .args .part .now) _ (c .before .before .before .before .loop-test .taken) (c .with .ensures), search needs)
+loop-again c = (
+  c .before .before .before .before .before .loop .inv .0
+      ∙ keeps-on _ _ (c .before .before .before .before .before .before .before .args .part .now) _ (c .before .before .before .before .loop-test .taken)
+      (c .with .ensures),
+  search needs,
+)
 
 returns : tie.Need-returns Inv-loop μ-loop
-returns c = sym (c .before .before .before .loop .inv .0 ∙ keeps-full _ _ _ (c .before .before .before .loop .inv .1) (ltb-false (c .before .before .before .loop .next .len) 11 (c .if1 .left)))
+returns c =
+    let was = c .before .before .before .loop in
+    sym (was .inv .0 ∙ keeps-full _ _ _ (was .inv .1) (ltb-false (was .next .len) 11 (c .if1 .left)))
 
 returns-2 : tie.Need-returns-2 Inv-loop μ-loop
 returns-2 c = sym (c .before .loop .inv .0 ∙ keeps-end _ (c .before .before .before .args .part .now) _ (c .loop-test .left))

@@ -1,3 +1,4 @@
+-- `feed::pieces::Trace::finish` meets its contract: a line has begun exactly where bytes of it are kept.
 use mathlib.Core.Path.{_≡_}
 use lib.ListN.{length}
 use native.Mathlib.Omega.{arith}
