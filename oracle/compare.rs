@@ -400,7 +400,8 @@ impl Comparison<Pair> {
             record: Record::default(),
             words: vec![0; 65_529],
         };
-        let made = port::make(&mut state.record, &mut state.words, 65_529);
+        let door = self.pair.kind().door;
+        let made = door.make(&mut state.record, &mut state.words, 65_529);
         assert_eq!(
             (made.number, made.value, made.compared),
             (0, 0, 0),
@@ -409,10 +410,10 @@ impl Comparison<Pair> {
         let mut numbers = Numbers::new(65_529);
         for _ in 0..50 {
             let size = numbers.within(1, 3000);
-            let reply = port::hand_out(&mut state.record, &mut state.words, size);
+            let reply = door.hand_out(&mut state.record, &mut state.words, size);
             assert_eq!(reply.number, 0, "there is room for {size} bytes");
             if numbers.one_in(2) {
-                port::take_back(&mut state.record, &mut state.words, reply.value);
+                door.take_back(&mut state.record, &mut state.words, reply.value);
             }
             if let Err(what) = self.judge(&state, &mut numbers) {
                 eprintln!("compare: 65,529 words: {what}");
@@ -499,9 +500,11 @@ fn changes() -> Vec<Box<dyn Fn(&mut Record)>> {
         Box::new(|r| r.committed ^= 8),
         Box::new(|r| r.peak ^= 8),
         Box::new(|r| r.high ^= 8),
-        Box::new(|r| r.cached ^= 1),
         Box::new(|r| r.fresh ^= 1),
     ];
+    for place in 0..4 {
+        all.push(Box::new(move |r| r.cached[place] ^= 1));
+    }
     for class in 0..6 {
         all.push(Box::new(move |r| r.prev[class] ^= 1));
         all.push(Box::new(move |r| r.next[class] ^= 1));

@@ -8,7 +8,7 @@ As a program it is the trace program of the rules, with the harness's options:
 
     python3 oracle/model.py [--places 1|4] [--dump] [--words N] [--fill SEED] [--marks STACKLETS] < frames
 
-A heap has one cache place, as document 01 and the Rust have it, or four, as W-205 does: one if it is not said.
+A heap has one cache place, as document 01 and the Rust have it, or four, as W-205 does: four if it is not said.
 
 Offsets are bytes from the heap's start, `w` is a word index, a link is 0 to 5 for a sentinel and
 w + 6 for the header at word w.
@@ -547,7 +547,7 @@ class Trace:
 
 def main(arguments):
     """Run the trace program on standard input."""
-    options = {"places": 1}
+    options = {"places": 4}
     arguments = iter(arguments)
     for argument in arguments:
         if argument == "--dump":
