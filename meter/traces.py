@@ -28,7 +28,7 @@ DAMAGED = 20  # damaged histories, of about 400 requests each
 
 LINES = 10_000  # lines of the random trace
 FIRST = 6_000  # of these, on the largest heap
-CACHE_PLACES = 1  # of the calls that the image makes, and of the record
+CACHE_PLACES = 4  # of the calls that the image makes, and of the record
 SEED = 20
 
 MAKE, HAND_OUT, TAKE_BACK, AUDIT = range(4)  # the audit is no frame of a trace, only a call to be counted
@@ -157,7 +157,7 @@ def damaged(histories=DAMAGED, rounds=200):
     model.Heap.dump, kept = state_line, model.Heap.dump
     lines, wanted, refused = [], [], 0
     for seed in range(histories):
-        data, options, answers, met = compare.damaged_history(seed, rounds)
+        data, options, answers, met = compare.damaged_history(seed, CACHE_PLACES, rounds)
         lines.append(damage_line("reset", 0, int(options[1])))
         for line in data.splitlines(keepends=True):
             if line.startswith(b"!"):
