@@ -33,7 +33,7 @@
  *   RISC-V     memcpy and memset; for the map __udivdi3
  *
  * Header and library belong together. What crosses the door has a layout with a number, LISCHEMUR_LAYOUT, and the library's
- * functions carry it in their names. If the linker says that lischemur_make_needs_library_of_layout_3 is undefined (the number
+ * functions carry it in their names. If the linker says that lischemur_make_needs_library_of_layout_4 is undefined (the number
  * is this header's), the library is of another layout: take header and library from the same build. If it says that
  * lischemur_make is undefined, a source was compiled with a header from before layout 2: compile it again with this one. For a
  * microcontroller the names end in its architecture too (_for_armv7em), so that the library of one does not go into an image
@@ -67,8 +67,8 @@ extern "C" {
 #endif
 
 /* The version, and the number of the layout of what crosses the door, which is the version's second number too. */
-#define LISCHEMUR_VERSION "0.3.0"
-#define LISCHEMUR_LAYOUT 3
+#define LISCHEMUR_VERSION "0.4.0"
+#define LISCHEMUR_LAYOUT 4
 
 /* How the library's names end on a microcontroller: in the architecture that it is compiled for (meter/parts has the list). The compiler
    names it by the macros that Arm and RISC-V define for C. */

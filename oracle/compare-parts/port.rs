@@ -16,49 +16,49 @@ mod library {
 
     #[link(name = "door", kind = "static")]
     extern "C" {
-        #[link_name = "lischemur_make_needs_library_of_layout_3"]
+        #[link_name = "lischemur_make_needs_library_of_layout_4"]
         pub fn lischemur_make(record: &mut Record, heap: *mut u32, len: u64, words: u32) -> Reply;
-        #[link_name = "lischemur_hand_out_needs_library_of_layout_3"]
+        #[link_name = "lischemur_hand_out_needs_library_of_layout_4"]
         pub fn lischemur_hand_out(
             record: &mut Record,
             heap: *mut u32,
             len: u64,
             size: u32,
         ) -> Reply;
-        #[link_name = "lischemur_take_back_needs_library_of_layout_3"]
+        #[link_name = "lischemur_take_back_needs_library_of_layout_4"]
         pub fn lischemur_take_back(
             record: &mut Record,
             heap: *mut u32,
             len: u64,
             payload: u32,
         ) -> Reply;
-        #[link_name = "lischemur_audit_needs_library_of_layout_3"]
+        #[link_name = "lischemur_audit_needs_library_of_layout_4"]
         pub fn lischemur_audit(record: Record, heap: *const u32, len: u64) -> u32;
-        #[link_name = "lischemur_one_hand_out_needs_library_of_layout_3"]
+        #[link_name = "lischemur_one_hand_out_needs_library_of_layout_4"]
         pub fn lischemur_one_hand_out(
             record: &mut Record,
             heap: *mut u32,
             len: u64,
             size: u32,
         ) -> Reply;
-        #[link_name = "lischemur_one_take_back_needs_library_of_layout_3"]
+        #[link_name = "lischemur_one_take_back_needs_library_of_layout_4"]
         pub fn lischemur_one_take_back(
             record: &mut Record,
             heap: *mut u32,
             len: u64,
             payload: u32,
         ) -> Reply;
-        #[link_name = "lischemur_one_audit_needs_library_of_layout_3"]
+        #[link_name = "lischemur_one_audit_needs_library_of_layout_4"]
         pub fn lischemur_one_audit(record: Record, heap: *const u32, len: u64) -> u32;
-        #[link_name = "lischemur_mark_needs_library_of_layout_3"]
+        #[link_name = "lischemur_mark_needs_library_of_layout_4"]
         pub fn lischemur_mark(record: Record, stacklets: u32) -> Marking;
-        #[link_name = "lischemur_in_use_needs_library_of_layout_3"]
+        #[link_name = "lischemur_in_use_needs_library_of_layout_4"]
         pub fn lischemur_in_use(record: Record) -> u32;
-        #[link_name = "lischemur_committed_needs_library_of_layout_3"]
+        #[link_name = "lischemur_committed_needs_library_of_layout_4"]
         pub fn lischemur_committed(record: Record) -> u32;
-        #[link_name = "lischemur_peak_needs_library_of_layout_3"]
+        #[link_name = "lischemur_peak_needs_library_of_layout_4"]
         pub fn lischemur_peak(record: Record) -> u32;
-        #[link_name = "lischemur_high_water_needs_library_of_layout_3"]
+        #[link_name = "lischemur_high_water_needs_library_of_layout_4"]
         pub fn lischemur_high_water(record: Record) -> u32;
     }
 }

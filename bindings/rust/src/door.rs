@@ -8,13 +8,13 @@ use core::mem::{align_of, offset_of, size_of};
 
 /// The number of the layout that record and replies have. The archive's names carry it, so that an
 /// archive of another layout does not link.
-pub const LAYOUT: u32 = 3;
+pub const LAYOUT: u32 = 4;
 
 /// The archive's name of a function: it ends in the layout's number and, for a microcontroller, in the
 /// processor's architecture, which build.rs knows.
 macro_rules! named {
     ($name:literal) => {
-        concat!($name, "_needs_library_of_layout_3", env!("LISCHEMUR_PART"))
+        concat!($name, "_needs_library_of_layout_4", env!("LISCHEMUR_PART"))
     };
 }
 

@@ -40,7 +40,7 @@ use reply::marking_of;
 
 // Makes a heap of the whole slice, which is to have `words` words. A 6 keeps the record.
 #[no_mangle]
-pub extern "C" fn lischemur_make_needs_library_of_layout_3(
+pub extern "C" fn lischemur_make_needs_library_of_layout_4(
     rec: &mut Record,
     heap: &mut [u32],
     words: u32,
@@ -54,7 +54,7 @@ pub extern "C" fn lischemur_make_needs_library_of_layout_3(
 
 // Hands out a payload of at least `size` bytes.
 #[no_mangle]
-pub extern "C" fn lischemur_hand_out_needs_library_of_layout_3(
+pub extern "C" fn lischemur_hand_out_needs_library_of_layout_4(
     rec: &mut Record,
     heap: &mut [u32],
     size: u32,
@@ -68,7 +68,7 @@ pub extern "C" fn lischemur_hand_out_needs_library_of_layout_3(
 
 // Takes back the payload that begins at this offset.
 #[no_mangle]
-pub extern "C" fn lischemur_take_back_needs_library_of_layout_3(
+pub extern "C" fn lischemur_take_back_needs_library_of_layout_4(
     rec: &mut Record,
     heap: &mut [u32],
     payload: u32,
@@ -82,7 +82,7 @@ pub extern "C" fn lischemur_take_back_needs_library_of_layout_3(
 
 // Whether the record and these words are sound: 1 or 0.
 #[no_mangle]
-pub extern "C" fn lischemur_audit_needs_library_of_layout_3(rec: Record, heap: &[u32]) -> u32
+pub extern "C" fn lischemur_audit_needs_library_of_layout_4(rec: Record, heap: &[u32]) -> u32
     ensures { λ r. ⌜ r ≡ bit (soundAt (four .places) (seen rec (now (heap .entry)))) ⌝ }
 {
     let sound = rec.audit(heap, Kind::Four);
@@ -92,7 +92,7 @@ pub extern "C" fn lischemur_audit_needs_library_of_layout_3(rec: Record, heap: &
 // Writes the heap's map at the start of the room, a line for each chunk, and replies how many: 5 if the heap is damaged, then 6 if the
 // room is too short.
 #[no_mangle]
-pub extern "C" fn lischemur_write_map_needs_library_of_layout_3(
+pub extern "C" fn lischemur_write_map_needs_library_of_layout_4(
     rec: Record,
     heap: &[u32],
     room: &mut [u8],
@@ -105,7 +105,7 @@ pub extern "C" fn lischemur_write_map_needs_library_of_layout_3(
 
 // The mark, if high water has risen, and the record with its flag off.
 #[no_mangle]
-pub extern "C" fn lischemur_mark_needs_library_of_layout_3(rec: Record, stacklets: u32) -> Marking
+pub extern "C" fn lischemur_mark_needs_library_of_layout_4(rec: Record, stacklets: u32) -> Marking
     ensures { λ r. ⌜ r ≡ markingBy (markOf rec stacklets) ⌝ }
 {
     let marked = rec.mark(stacklets);
@@ -115,7 +115,7 @@ pub extern "C" fn lischemur_mark_needs_library_of_layout_3(rec: Record, stacklet
 
 // Bytes in use, as tasks hold them.
 #[no_mangle]
-pub extern "C" fn lischemur_in_use_needs_library_of_layout_3(rec: Record) -> u32
+pub extern "C" fn lischemur_in_use_needs_library_of_layout_4(rec: Record) -> u32
     ensures { λ r. ⌜ r ≡ rec .«in_use» ⌝ }
 {
     rec.in_use()
@@ -123,7 +123,7 @@ pub extern "C" fn lischemur_in_use_needs_library_of_layout_3(rec: Record) -> u32
 
 // Bytes committed: those in use, and those of the cached chunks.
 #[no_mangle]
-pub extern "C" fn lischemur_committed_needs_library_of_layout_3(rec: Record) -> u32
+pub extern "C" fn lischemur_committed_needs_library_of_layout_4(rec: Record) -> u32
     ensures { λ r. ⌜ r ≡ rec .committed ⌝ }
 {
     rec.committed()
@@ -131,7 +131,7 @@ pub extern "C" fn lischemur_committed_needs_library_of_layout_3(rec: Record) -> 
 
 // The most bytes that were committed.
 #[no_mangle]
-pub extern "C" fn lischemur_peak_needs_library_of_layout_3(rec: Record) -> u32
+pub extern "C" fn lischemur_peak_needs_library_of_layout_4(rec: Record) -> u32
     ensures { λ r. ⌜ r ≡ rec .peak ⌝ }
 {
     rec.peak()
@@ -139,7 +139,7 @@ pub extern "C" fn lischemur_peak_needs_library_of_layout_3(rec: Record) -> u32
 
 // High water: the largest end of a chunk that was handed out.
 #[no_mangle]
-pub extern "C" fn lischemur_high_water_needs_library_of_layout_3(rec: Record) -> u32
+pub extern "C" fn lischemur_high_water_needs_library_of_layout_4(rec: Record) -> u32
     ensures { λ r. ⌜ r ≡ rec .high ⌝ }
 {
     rec.high_water()
@@ -147,7 +147,7 @@ pub extern "C" fn lischemur_high_water_needs_library_of_layout_3(rec: Record) ->
 
 // ONE CACHE PLACE. Hands out a payload of at least `size` bytes.
 #[no_mangle]
-pub extern "C" fn lischemur_one_hand_out_needs_library_of_layout_3(
+pub extern "C" fn lischemur_one_hand_out_needs_library_of_layout_4(
     rec: &mut Record,
     heap: &mut [u32],
     size: u32,
@@ -161,7 +161,7 @@ pub extern "C" fn lischemur_one_hand_out_needs_library_of_layout_3(
 
 // Takes back the payload that begins at this offset, with one cache place.
 #[no_mangle]
-pub extern "C" fn lischemur_one_take_back_needs_library_of_layout_3(
+pub extern "C" fn lischemur_one_take_back_needs_library_of_layout_4(
     rec: &mut Record,
     heap: &mut [u32],
     payload: u32,
@@ -175,7 +175,7 @@ pub extern "C" fn lischemur_one_take_back_needs_library_of_layout_3(
 
 // Whether the record and these words are sound with one cache place: 1 or 0.
 #[no_mangle]
-pub extern "C" fn lischemur_one_audit_needs_library_of_layout_3(rec: Record, heap: &[u32]) -> u32
+pub extern "C" fn lischemur_one_audit_needs_library_of_layout_4(rec: Record, heap: &[u32]) -> u32
     ensures { λ r. ⌜ r ≡ bit (soundAt (one .places) (seen rec (now (heap .entry)))) ⌝ }
 {
     let sound = rec.audit(heap, Kind::One);
@@ -184,7 +184,7 @@ pub extern "C" fn lischemur_one_audit_needs_library_of_layout_3(rec: Record, hea
 
 // Writes the map of a heap with one cache place.
 #[no_mangle]
-pub extern "C" fn lischemur_one_write_map_needs_library_of_layout_3(
+pub extern "C" fn lischemur_one_write_map_needs_library_of_layout_4(
     rec: Record,
     heap: &[u32],
     room: &mut [u8],

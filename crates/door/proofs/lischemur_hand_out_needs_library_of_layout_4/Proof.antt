@@ -24,10 +24,10 @@ use Rattle.door.proofs.Door.{Claim, Core, door-meets}
 use Rattle.door.proofs.plain.hand_out_plain.Symbol as core-def
 use Rattle.door.proofs.plain.hand_out_plain.Symbol.{name as #core}
 use Rattle.door.proofs.plain.hand_out_plain.Met as core-thm
-use Rattle.door.proofs.lischemur_hand_out_needs_library_of_layout_3.Key.{name as #f}
-use Rattle.door.proofs.lischemur_hand_out_needs_library_of_layout_3 as f
-use Rattle.door.proofs.lischemur_hand_out_needs_library_of_layout_3.Statement as stated
-use Rattle.door.proofs.lischemur_hand_out_needs_library_of_layout_3.Code as code
+use Rattle.door.proofs.lischemur_hand_out_needs_library_of_layout_4.Key.{name as #f}
+use Rattle.door.proofs.lischemur_hand_out_needs_library_of_layout_4 as f
+use Rattle.door.proofs.lischemur_hand_out_needs_library_of_layout_4.Statement as stated
+use Rattle.door.proofs.lischemur_hand_out_needs_library_of_layout_4.Code as code
 
 -- what the contract says of record, words and number before, and of reply, record and words after
 abbrev Says : Claim
@@ -39,9 +39,9 @@ says-it : {M : Type 1} (𝓤 : URA M) (H : Heap 𝓤) (A : Atoms 𝓤) (mem : Me
 says-it 𝓤 H A mem run κs a b n r a′ b′ = refl
 
 -- the door's theorem
-pub lischemur-hand-out-needs-library-of-layout-3-spec : {M : Type 1} → stated.statement M
+pub lischemur-hand-out-needs-library-of-layout-4-spec : {M : Type 1} → stated.statement M
 unfolding code.routine tablesOf
-lischemur-hand-out-needs-library-of-layout-3-spec 𝓤 H 𝓜 𝓖 𝓡 =
+lischemur-hand-out-needs-library-of-layout-4-spec 𝓤 H 𝓜 𝓖 𝓡 =
     entered 𝓤 H (tripleOf 𝓤 H (𝓖 .A) f.signature (f.spec 𝓤 H (𝓖 .A) (𝓜 .mem) (𝓡 .run)))
     (tables 𝓤 H 𝓜 𝓡 code.env .C) (tables 𝓤 H 𝓜 𝓡 code.env .Λ) #f code.function (code.unfolded 𝓤 H 𝓜 𝓡)
     (door-meets Says #core 𝓤 H (𝓖 .A) (givenOf 𝓤 H 𝓜 𝓖) (tablesOf 𝓤 H 𝓜 (tables 𝓤 H 𝓜 𝓡 code.env))
