@@ -65,7 +65,7 @@ replies-machine places [] m = refl
 replies-machine places (q ∷ qs) m = ap (λ (bs : List Answer). answerOf (callM places q m) ∷ bs) (replies-machine places qs (callM places q m .after))
 
 -- a live word lies in the payload of a used chunk
-payload : (m : Model) (i : ℕ) → LiveWord m i → Payload (m .cs) i
+pub payload : (m : Model) (i : ℕ) → LiveWord m i → Payload (m .cs) i
 payload m i l =
     let u = l .2 .1 in
     let b = u .byte in
@@ -205,7 +205,8 @@ module _ {S : Type 0} {op : Ops S Figures} {most places : ℕ} (E : Edition op m
             rw (choose-cached E s m h (roundedOf size))
             (served (choose (sizeM m) (roundedOf size) (m .figs .cached)) (choose-picked (sizeM m) (roundedOf size) (m .figs .cached)))
 
-    gave-keeps : (k v : ℕ) (ks : List ℕ) (r : Figures) → 6 ≤ k → 0 < usedAt (m .cs) (byteOf k) → Payload (m .cs) i → Payload (gaveM m v ks (byteOf k) (sizeM m k) .cs) i
+    -- a chunk released: a word in a payload before and after stays
+    pub gave-keeps : (k v : ℕ) (ks : List ℕ) (r : Figures) → 6 ≤ k → 0 < usedAt (m .cs) (byteOf k) → Payload (m .cs) i → Payload (gaveM m v ks (byteOf k) (sizeM m k) .cs) i
         → op .word (op .setRest (releaseChunk op s (k - 6) (lengthAt op s k)) r) i ≡ op .word s i
     unfolding gaveM
     gave-keeps k v ks r k6 up p p″ =
