@@ -1,8 +1,10 @@
 -- EMPTYING THE CACHE: its chunks released, oldest first, each merged with what it then touches; what tasks hold stays. On states, and without memory.
 use mathlib.Core.List.{List, [], _∷_}
-use Prim.Native.Nat.{ℕ, _-_}
+use Prim.Native.Nat.{ℕ, _-_, max}
+use Rattle.words.specs.Choice.{pick}
 use Rattle.rules.specs.Ops.{Ops}
 use Rattle.rules.specs.Steps.{lengthAt, releaseChunk}
+use Rattle.rules.specs.Chunks.{Chunk}
 use Rattle.rules.specs.Rules.{Figures, byteOf, released}
 use Rattle.rules.specs.Machine.{Model, sizeM, gaveM}
 
@@ -36,3 +38,8 @@ emptyCacheM m (k ∷ ks) = emptyCacheM (letGoM m k ks) ks
 -- all of them: the merged layout
 abbrev pub withoutCacheM : Model → Model
 withoutCacheM m = emptyCacheM m (m .figs .cached)
+
+-- THE LONGEST free chunk; 0 where none is free
+abbrev pub longest : List Chunk → ℕ
+longest [] = 0
+longest (c ∷ cs) = max (pick (c .used) 0 (c .len)) (longest cs)
