@@ -1,10 +1,10 @@
 -- WHAT EMPTYING THE CACHE MAKES, seen in the layout: the free chunks of the merged layout are the runs of touching chunks that are free or cached, each with
 -- its place and its length. So a person sees from the chunks alone what could be served. Assumes nothing.
-use mathlib.Core.Path.{_≡_, refl, sym, ap, _∙_}
+use mathlib.Core.Path.{_≡_, refl, sym, ap, _∙_, subst}
 use mathlib.Core.Logic.{_⊎_, inl, inr}
 use mathlib.Core.Bool.{Bool, true, false}
 use mathlib.Core.List.{List, [], _∷_, _++_}
-use Prim.Native.Nat.{ℕ, _+_, _%_, max, _≤_}
+use Prim.Native.Nat.{ℕ, _+_, _%_, max, _≤_, _<_}
 use native.Mathlib.Omega.{arith}
 use native.Mathlib.Nat.{add-assoc, add-zero, zero-add}
 use lib.ListN.{length}
@@ -12,13 +12,14 @@ use borrow.Author.Tests.{eq-eqb, ne-eqb}
 use Rattle.words.specs.Choice.{pick}
 use Rattle.rules.specs.Ops.{Ops}
 use Rattle.rules.specs.Chunks.{Chunk, free, busy, total, Legal, Calm, usedHead, join, release}
-use Rattle.rules.specs.Exact.{slot, frees}
+use Rattle.rules.specs.Exact.{slot, In, frees}
 use Rattle.rules.specs.Rules.{Figures, byteOf, nameOf, listed}
 use Rattle.rules.specs.Machine.{Model, gaveM}
 use Rattle.rules.specs.LetGo.{letGo, letGoM, emptyCacheM, withoutCacheM, longest}
 use Rattle.rules.specs.FreeRuns.{ended, runsFrom, freeRuns, greatest}
 use Rattle.rules.specs.Sound.{Shows}
 use Rattle.rules.proofs.Store.{Edition}
+use Rattle.rules.proofs.Longest.{free-longest, longest-short}
 use Rattle.rules.proofs.LetGo.{oldest, oldest-gone, place}
 
 -- nothing cached and no two free chunks touch: a run is a free chunk
@@ -105,3 +106,21 @@ module _ {S : Type 0} {op : Ops S Figures} {most places : ℕ} (E : Edition op m
   -- so its longest free chunk is the longest run
   pub longest-run : (s : S) (m : Model) → Sh s m → greatest (freeRuns m) ≡ longest (withoutCacheM m .cs)
   longest-run s m h = ap greatest (runs-are-free s m h) ∙ longest-greatest 0 (withoutCacheM m .cs)
+
+  -- NO FIT BY RUNS: every free chunk of the merged layout is shorter than t exactly if every run is
+  pub runs-short : (s : S) (m : Model) (t : ℕ) → Sh s m
+      → (((x n : ℕ) → In (slot x n) (frees 0 (withoutCacheM m .cs)) → n < t) → (x n : ℕ) → In (slot x n) (freeRuns m) → n < t)
+      × (((x n : ℕ) → In (slot x n) (freeRuns m) → n < t) → (x n : ℕ) → In (slot x n) (frees 0 (withoutCacheM m .cs)) → n < t)
+  runs-short s m t h =
+      let e = runs-are-free s m h in
+      (λ f x n i. f x n (subst (In (slot x n)) e i), λ f x n i. f x n (subst (In (slot x n)) (sym e) i))
+
+  -- and exactly if the longest run is
+  pub longest-run-short : (s : S) (m : Model) (t : ℕ) → Sh s m → 0 < t
+      → (((x n : ℕ) → In (slot x n) (frees 0 (withoutCacheM m .cs)) → n < t) → greatest (freeRuns m) < t)
+      × (greatest (freeRuns m) < t → (x n : ℕ) → In (slot x n) (frees 0 (withoutCacheM m .cs)) → n < t)
+  longest-run-short s m t h p =
+      let e = longest-run s m h in (
+        λ f. let a = longest-short 0 t (withoutCacheM m .cs) p f in omega arith,
+        λ q x n i. let a = free-longest 0 (withoutCacheM m .cs) x n i in omega arith,
+      )

@@ -1,6 +1,7 @@
 -- EMPTYING THE CACHE, one chunk let go and all of them. On states it is what it is without memory, so soundness is kept:
 --     oldest-gone     the oldest cached chunk let go;  without-cache-shows: all of them
 --     let-go-figures, without-cache-figures    what tasks hold stays; committed falls to it, and nothing is cached
+--     without-cache-step, without-cache-done   emptying goes by letting one go after the other, until nothing is cached
 --     without-cache-live, without-cache-keeps  every live payload stays, with its length and its words
 -- For a state that shows a model, and (name with ᵇ) for one that the test says yes to. Assumes nothing.
 use mathlib.Core.Path.{_≡_, refl, sym, ap, _∙_, subst}
@@ -138,6 +139,11 @@ emptied-figures (k ∷ ks) m e = emptied-figures ks (letGoM m k ks) refl
 
 -- ---- on states
 
+-- nothing cached: nothing to do
+pub without-cache-done : {S : Type 0} (op : Ops S Figures) (s : S) → op .rest s .cached ≡ [] → withoutCache op s ≡ s
+unfolding emptyCache
+without-cache-done op s e = ap (emptyCache op s) e
+
 module _ {S : Type 0} {op : Ops S Figures} {most places : ℕ} (E : Edition op most places) where
   abbrev Sh : S → Model → Type 0
   Sh = Shows op most places
@@ -190,6 +196,14 @@ module _ {S : Type 0} {op : Ops S Figures} {most places : ℕ} (E : Edition op m
       ∙ ap (λ (f : Figures). released f (f .inUse) ks (sizeM m k)) (sym (h .figs))
       ∙ ap (released (op .rest s) (op .rest s .inUse) ks) (sym (used-same E s m h k (u .0) (u .1)))
 
+  -- ONE STEP of emptying: with k let go, what is left to do comes to the same
+  pub without-cache-step : (s : S) (m : Model) (k : ℕ) (ks : List ℕ) → Sh s m → op .rest s .cached ≡ k ∷ ks
+      → withoutCache op s ≡ withoutCache op (letGo op s (op .rest s .inUse) k ks)
+  unfolding emptyCache
+  without-cache-step s m k ks h e =
+      ap (emptyCache op s) e
+      ∙ ap (emptyCache op (letGo op s (op .rest s .inUse) k ks)) (sym (ap (λ (f : Figures). f .cached) (let-go-figures s m k ks h e)))
+
   -- ---- LIVE PAYLOADS
 
   -- each stays, with its length, and none comes
@@ -238,6 +252,9 @@ module _ {S : Type 0} {op : Ops S Figures} {most places : ℕ} (E : Edition op m
     pub let-go-figuresᵇ : (k : ℕ) (ks : List ℕ) → op .rest s .cached ≡ k ∷ ks
         → op .rest (letGo op s (op .rest s .inUse) k ks) ≡ released (op .rest s) (op .rest s .inUse) ks (lengthAt op s k)
     let-go-figuresᵇ k ks = let h = sound-true E s ok in let-go-figures s (h .0) k ks (h .1)
+
+    pub without-cache-stepᵇ : (k : ℕ) (ks : List ℕ) → op .rest s .cached ≡ k ∷ ks → withoutCache op s ≡ withoutCache op (letGo op s (op .rest s .inUse) k ks)
+    without-cache-stepᵇ k ks = let h = sound-true E s ok in without-cache-step s (h .0) k ks (h .1)
 
     pub without-cache-soundᵇ : soundᵇ op most places (withoutCache op s) ≡ true
     without-cache-soundᵇ =
