@@ -20,7 +20,8 @@ use Rattle.rules.specs.FreeRuns.{ended, runsFrom, freeRuns, greatest}
 use Rattle.rules.specs.Sound.{Shows}
 use Rattle.rules.proofs.Store.{Edition}
 use Rattle.rules.proofs.Longest.{free-longest, longest-short}
-use Rattle.rules.proofs.LetGo.{oldest, oldest-gone, place}
+use Rattle.rules.proofs.Follow.{oldest, oldest-gone}
+use Rattle.rules.proofs.LetGo.{place}
 
 -- nothing cached and no two free chunks touch: a run is a free chunk
 runs-free : (e a : ℕ) (cs : List Chunk) → Legal cs → Calm cs → (a ≡ 0) ⊎ (usedHead cs ≡ true) → runsFrom [] e a cs ≡ ended e a (frees (e + a) cs)

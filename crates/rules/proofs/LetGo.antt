@@ -1,5 +1,5 @@
--- EMPTYING THE CACHE, one chunk let go and all of them. On states it is what it is without memory, so soundness is kept:
---     oldest-gone     the oldest cached chunk let go;  without-cache-shows: all of them
+-- EMPTYING THE CACHE, one chunk let go and all of them: sound (proofs/Follow.antt has that it shows what it is without memory), and nothing live changes.
+--     place, others-stay, none-there           what the layout is after one, and which used chunks it has
 --     let-go-figures, without-cache-figures    what tasks hold stays; committed falls to it, and nothing is cached
 --     without-cache-step, without-cache-done   emptying goes by letting one go after the other, until nothing is cached
 --     without-cache-live, without-cache-keeps  every live payload stays, with its length and its words
@@ -10,30 +10,36 @@ use mathlib.Core.Bool.{Bool, true, false}
 use mathlib.Core.List.{List, [], _∷_, _++_, List·Memᴰ·head, List·Memᴰ·tail}
 use Prim.Native.Nat.{ℕ, _+_, _-_, _≤_, _<_}
 use native.Mathlib.Omega.{arith}
+use native.Mathlib.Nat.{zero-add}
 use native.Mathlib.Decide.{ℕ-discrete}
 use lib.Dec.{leb}
 use lib.ListN.{length}
 use borrow.Author.Tests.{eq-eqb, ne-eqb}
 use Rattle.words.specs.Choice.{pick}
+use Rattle.words.specs.Sizes.{classOf}
+use Rattle.words.proofs.Laws.Sizes.{class-below}
 use Rattle.rules.specs.Lists.{Mem}
 use Rattle.rules.specs.Ops.{Ops}
-use Rattle.rules.specs.Steps.{lengthAt}
-use Rattle.rules.specs.Chunks.{Chunk, busy, total, Legal, release}
+use Rattle.rules.specs.Steps.{lengthAt, releaseChunk}
+use Rattle.rules.specs.Chunks.{Chunk, busy, total, Legal, Calm, release}
 use Rattle.rules.specs.Place.{UsedAt, indexAt, usedAt}
 use Rattle.rules.specs.Rules.{Figures, byteOf, nameOf, listed, withCached, released, live}
 use Rattle.rules.specs.Machine.{Model, sizeM, liveM, gaveM}
 use Rattle.rules.specs.LetGo.{withoutCacheF, letGo, emptyCache, withoutCache, letGoM, emptyCacheM, withoutCacheM}
 use Rattle.rules.specs.Demands.{LiveAt, LiveWord}
 use Rattle.rules.proofs.Part.{legal-front, legal-back}
-use Rattle.rules.proofs.Calls.{total-8}
+use Rattle.rules.proofs.Calls.{Whole, total-8}
 use Rattle.rules.proofs.Place.{index-at, used-at}
 use Rattle.rules.proofs.LayoutFacts.{release-used, release-gone}
 use Rattle.rules.proofs.Demands.{used-there}
-use Rattle.rules.proofs.Runs.{payload, gave-keeps}
-use Rattle.rules.specs.Sound.{liveSum, CacheRight, Shows}
+use Rattle.rules.proofs.Bytes.{releaseStep, release-words}
+use Rattle.rules.proofs.Keep.{release-keeps}
+use Rattle.rules.proofs.KeepLive.{payload, payload-off, shape, shape-out}
+use Rattle.rules.proofs.Live.{Payload}
+use Rattle.rules.specs.Sound.{Shows}
 use Rattle.rules.specs.Test.{soundᵇ}
 use Rattle.rules.proofs.Store.{Edition}
-use Rattle.rules.proofs.Follow.{let-go-shows, in-use-held, used-same, live-same}
+use Rattle.rules.proofs.Follow.{L, whole, used-size, used-same, in-use-held, left-there, oldest, oldest-gone, without-cache-shows, live-same}
 use Rattle.rules.proofs.LiveSums.{heldSum}
 use Rattle.rules.proofs.Decide.{sound-true, true-sound}
 
@@ -45,6 +51,7 @@ module _ (m : Model) (k : ℕ) (ks : List ℕ) (l : Legal (m .cs)) (k6 : 6 ≤ k
     pub pre : List Chunk
     pub size : ℕ
     pub post : List Chunk
+    pub long : usedAt (m .cs) (byteOf k) ≡ size
     pub was : m .cs ≡ pre ++ busy size ∷ post
     pub is : letGoM m k ks .cs ≡ release (pre ++ busy size ∷ post) (length pre)
     pub byte : byteOf k ≡ total pre
@@ -63,6 +70,7 @@ module _ (m : Model) (k : ℕ) (ks : List ℕ) (l : Legal (m .cs)) (k6 : 6 ≤ k
         pre = u .pre;
         size = n;
         post = u .post;
+        long = refl;
         was = u .is;
         is = ap (λ (i : ℕ). release (m .cs) i) j ∙ ap (λ ds. release ds (length (u .pre))) (u .is);
         byte = u .byte;
@@ -148,33 +156,10 @@ module _ {S : Type 0} {op : Ops S Figures} {most places : ℕ} (E : Edition op m
   abbrev Sh : S → Model → Type 0
   Sh = Shows op most places
 
-  -- the oldest cached chunk is a used one
-  pub oldest : (s : S) (m : Model) (k : ℕ) (ks : List ℕ) → Sh s m → m .figs .cached ≡ k ∷ ks → (6 ≤ k) × (0 < usedAt (m .cs) (byteOf k))
-  oldest s m k ks h e = subst (λ (l : List ℕ). CacheRight places l (m .cs)) e (h .cache) .used k (List·Memᴰ·head refl)
-
-  -- LET GO: tasks hold what they held
-  pub oldest-gone : (s : S) (m : Model) (k : ℕ) (ks : List ℕ) → Sh s m → m .figs .cached ≡ k ∷ ks → Sh (letGo op s (op .rest s .inUse) k ks) (letGoM m k ks)
-  oldest-gone s m k ks h e =
-      let c : CacheRight places (k ∷ ks) (m .cs) = subst (λ (l : List ℕ). CacheRight places l (m .cs)) e (h .cache) in
-      let r = c .room in
-      let v : m .figs .inUse ≡ liveSum (k ∷ ks) 0 (m .cs) = h .right .inUse ∙ ap (λ (l : List ℕ). liveSum l 0 (m .cs)) e in
-      let f : op .rest s .inUse ≡ m .figs .inUse = ap (λ (r : Figures). r .inUse) (h .figs) in
-      subst (λ (i : ℕ). Sh (letGo op s i k ks) (letGoM m k ks)) (sym f) (let-go-shows E s m h (m .figs .inUse) k ks (c .used) (c .once) (omega arith) v)
-
-  -- ALL LET GO
-  pub empty-cache-shows : (ks : List ℕ) (s : S) (m : Model) → Sh s m → m .figs .cached ≡ ks → Sh (emptyCache op s ks) (emptyCacheM m ks)
-  unfolding emptyCache emptyCacheM gaveM
-  empty-cache-shows [] s m h e = h
-  empty-cache-shows (k ∷ ks) s m h e = empty-cache-shows ks (letGo op s (op .rest s .inUse) k ks) (letGoM m k ks) (oldest-gone s m k ks h e) refl
-
-  pub without-cache-shows : (s : S) (m : Model) → Sh s m → Sh (withoutCache op s) (withoutCacheM m)
-  without-cache-shows s m h =
-      subst (λ (f : Figures). Sh (emptyCache op s (f .cached)) (withoutCacheM m)) (sym (h .figs)) (empty-cache-shows (m .figs .cached) s m h refl)
-
   -- THE FIGURES after it: committed is what tasks hold, nothing is cached, the others stay
   pub without-cache-figures : (s : S) (m : Model) → Sh s m → op .rest (withoutCache op s) ≡ withoutCacheF (op .rest s)
   without-cache-figures s m h =
-      let g = without-cache-shows s m h in
+      let g = without-cache-shows E s m h in
       let f = emptied-figures (m .figs .cached) m refl in
       let a = g .right .committed in
       let b = in-use-held E (withoutCache op s) (withoutCacheM m) g in
@@ -183,7 +168,7 @@ module _ {S : Type 0} {op : Ops S Figures} {most places : ℕ} (E : Edition op m
 
   pub without-cache-count : (s : S) (m : Model) → Sh s m → op .count (withoutCache op s) ≡ op .count s
   without-cache-count s m h =
-      sym (without-cache-shows s m h .words) ∙ ap (λ (r : Figures). r .words) (emptied-figures (m .figs .cached) m refl) ∙ h .words
+      sym (without-cache-shows E s m h .words) ∙ ap (λ (r : Figures). r .words) (emptied-figures (m .figs .cached) m refl) ∙ h .words
 
   -- after one chunk let go: committed falls by its length, it is cached no more, the others stay
   pub let-go-figures : (s : S) (m : Model) (k : ℕ) (ks : List ℕ) → Sh s m → op .rest s .cached ≡ k ∷ ks
@@ -191,8 +176,8 @@ module _ {S : Type 0} {op : Ops S Figures} {most places : ℕ} (E : Edition op m
   unfolding gaveM
   let-go-figures s m k ks h e =
       let q : m .figs .cached ≡ k ∷ ks = ap (λ (f : Figures). f .cached) (sym (h .figs)) ∙ e in
-      let u = oldest s m k ks h q in
-      oldest-gone s m k ks h q .figs
+      let u = oldest E s m k ks h q in
+      oldest-gone E s m k ks h q .figs
       ∙ ap (λ (f : Figures). released f (f .inUse) ks (sizeM m k)) (sym (h .figs))
       ∙ ap (released (op .rest s) (op .rest s .inUse) ks) (sym (used-same E s m h k (u .0) (u .1)))
 
@@ -211,26 +196,48 @@ module _ {S : Type 0} {op : Ops S Figures} {most places : ℕ} (E : Edition op m
   unfolding emptyCacheM gaveM
   empty-cache-live [] s m p h e = refl
   empty-cache-live (k ∷ ks) s m p h e =
-      let u = oldest s m k ks h e in
-      empty-cache-live ks (letGo op s (op .rest s .inUse) k ks) (letGoM m k ks) p (oldest-gone s m k ks h e) refl
+      let u = oldest E s m k ks h e in
+      empty-cache-live ks (letGo op s (op .rest s .inUse) k ks) (letGoM m k ks) p (oldest-gone E s m k ks h e) refl
       ∙ live-stays m k ks (h .legal) (u .0) (u .1) p e
 
   pub without-cache-live : (s : S) (m : Model) → Sh s m → (p : ℕ) → live op (withoutCache op s) p ≡ live op s p
   without-cache-live s m h p =
-      live-same E (withoutCache op s) (withoutCacheM m) (without-cache-shows s m h) p ∙ empty-cache-live (m .figs .cached) s m p h refl
+      live-same E (withoutCache op s) (withoutCacheM m) (without-cache-shows E s m h) p ∙ empty-cache-live (m .figs .cached) s m p h refl
       ∙ sym (live-same E s m h p)
 
-  -- and so do its words
+  -- a word that lies in a payload before and after a chunk is released stays
+  pub gave-keeps : (s : S) (m : Model) (h : Sh s m) (i k v : ℕ) (ks : List ℕ) (r : Figures) → 6 ≤ k → 0 < usedAt (m .cs) (byteOf k) → Payload (m .cs) i
+      → Payload (gaveM m v ks (byteOf k) (sizeM m k) .cs) i → op .word (op .setRest (releaseChunk op s (k - 6) (lengthAt op s k)) r) i ≡ op .word s i
+  unfolding gaveM
+  gave-keeps s m h i k v ks r k6 up p p″ =
+      let u = place m k ks (h .legal) k6 up in
+      let n = u .size in
+      let w = subst (λ cs. Whole (L E s m h) classOf class-below s (m .orders) cs) (u .was) (whole E s m h) in
+      let c = subst Calm (u .was) (h .calm) in
+      let lq = (legal-back (u .pre) (busy n ∷ u .post) (u .legal)) .2 in
+      let b : byteOf k ≡ 0 + total (u .pre) = u .byte ∙ sym (zero-add (total (u .pre))) in
+      let y : lengthAt op s k ≡ n = used-size E s m h k k6 up ∙ u .long in
+      let lt = left-there E (L E s m h) s (u .pre) n (u .post) k (u .byte) k6 (u .legal) (w .tags) in
+      L E s m h .word-setRest (releaseChunk op s (k - 6) (lengthAt op s k)) r i
+      ∙ ap (λ (t : S). op .word t i) (release-words op s (k - 6) (lengthAt op s k) (omega arith) (lt .1))
+      ∙ ap (λ (t : ℕ). op .word (releaseStep op classOf s (byteOf k) t) i) y
+      ∙ ap (λ (t : ℕ). op .word (releaseStep op classOf s t n) i) b
+      ∙ release-keeps (L E s m h) classOf class-below s (m .orders) n i (u .pre) (u .post) c w
+      (payload-off (L E s m h) classOf class-below (u .pre ++ busy n ∷ u .post) i (u .legal) (subst (λ ds. Payload ds i) (u .was) p))
+      (shape-out (L E s m h) classOf class-below s n _ _ _ i (shape (L E s m h) classOf class-below s n (u .pre) (u .post) c lq)
+      (subst (λ ds. Payload ds i) (u .is) p″))
+
+  -- so the words of a live payload stay
   pub empty-cache-keeps : (ks : List ℕ) (s : S) (m : Model) (i : ℕ) → Sh s m → m .figs .cached ≡ ks → LiveWord m i
       → LiveWord (emptyCacheM m ks) i × (op .word (emptyCache op s ks) i ≡ op .word s i)
   unfolding emptyCache emptyCacheM gaveM
   empty-cache-keeps [] s m i h e l = (l, refl)
   empty-cache-keeps (k ∷ ks) s m i h e l =
-      let u = oldest s m k ks h e in
+      let u = oldest E s m k ks h e in
       let l′ : LiveWord (letGoM m k ks) i = (l .0, l .1, payload-stays m k ks (h .legal) (u .0) (u .1) (l .0) (l .1) e (l .2), l .3) in
-      let r = empty-cache-keeps ks (letGo op s (op .rest s .inUse) k ks) (letGoM m k ks) i (oldest-gone s m k ks h e) refl l′ in (
+      let r = empty-cache-keeps ks (letGo op s (op .rest s .inUse) k ks) (letGoM m k ks) i (oldest-gone E s m k ks h e) refl l′ in (
         r .0,
-        r .1 ∙ gave-keeps E s m h i k (m .figs .inUse) ks (released (op .rest s) (op .rest s .inUse) ks (lengthAt op s k)) (u .0) (u .1)
+        r .1 ∙ gave-keeps s m h i k (m .figs .inUse) ks (released (op .rest s) (op .rest s .inUse) ks (lengthAt op s k)) (u .0) (u .1)
             (payload m i l) (payload (letGoM m k ks) i l′),
       )
 
@@ -247,7 +254,7 @@ module _ {S : Type 0} {op : Ops S Figures} {most places : ℕ} (E : Edition op m
     let-go-soundᵇ k ks e =
         let h = sound-true E s ok in
         let q : h .0 .figs .cached ≡ k ∷ ks = ap (λ (f : Figures). f .cached) (sym (h .1 .figs)) ∙ e in
-        true-sound E (letGo op s (op .rest s .inUse) k ks) (letGoM (h .0) k ks, oldest-gone s (h .0) k ks (h .1) q)
+        true-sound E (letGo op s (op .rest s .inUse) k ks) (letGoM (h .0) k ks, oldest-gone E s (h .0) k ks (h .1) q)
 
     pub let-go-figuresᵇ : (k : ℕ) (ks : List ℕ) → op .rest s .cached ≡ k ∷ ks
         → op .rest (letGo op s (op .rest s .inUse) k ks) ≡ released (op .rest s) (op .rest s .inUse) ks (lengthAt op s k)
@@ -258,7 +265,7 @@ module _ {S : Type 0} {op : Ops S Figures} {most places : ℕ} (E : Edition op m
 
     pub without-cache-soundᵇ : soundᵇ op most places (withoutCache op s) ≡ true
     without-cache-soundᵇ =
-        let h = sound-true E s ok in true-sound E (withoutCache op s) (withoutCacheM (h .0), without-cache-shows s (h .0) (h .1))
+        let h = sound-true E s ok in true-sound E (withoutCache op s) (withoutCacheM (h .0), without-cache-shows E s (h .0) (h .1))
 
     pub without-cache-figuresᵇ : op .rest (withoutCache op s) ≡ withoutCacheF (op .rest s)
     without-cache-figuresᵇ = let h = sound-true E s ok in without-cache-figures s (h .0) (h .1)
