@@ -3,21 +3,25 @@
 use mathlib.Core.Path.{_≡_, refl, sym, ap, _∙_, subst}
 use mathlib.Core.Logic.{_⊎_, inl, inr}
 use mathlib.Core.Bool.{Bool, true, false}
-use mathlib.Core.List.{List, [], _∷_, _++_}
+use mathlib.Core.List.{List, [], _∷_, _++_, List·Memᴰ·head, List·Memᴰ·tail}
 use Prim.Native.Nat.{ℕ, _+_, _%_, max, _≤_, _<_}
 use native.Mathlib.Omega.{arith}
 use native.Mathlib.Nat.{add-assoc, add-zero, zero-add}
+use lib.Dec.{eqb}
 use lib.ListN.{length}
 use borrow.Author.Tests.{eq-eqb, ne-eqb}
 use Rattle.words.specs.Choice.{pick}
 use Rattle.rules.specs.Ops.{Ops}
 use Rattle.rules.specs.Chunks.{Chunk, free, busy, total, Legal, Calm, usedHead, join, release}
-use Rattle.rules.specs.Exact.{slot, In, frees}
+use Rattle.rules.specs.Exact.{Slot, slot, In, frees}
 use Rattle.rules.specs.Rules.{Figures, byteOf, nameOf, listed}
 use Rattle.rules.specs.Machine.{Model, gaveM}
 use Rattle.rules.specs.LetGo.{letGo, letGoM, emptyCacheM, withoutCacheM, longest}
-use Rattle.rules.specs.FreeRuns.{ended, runsFrom, freeRuns, greatest}
+use Rattle.rules.specs.FreeRuns.{ended, runsFrom, freeRuns, greatest, Inside}
 use Rattle.rules.specs.Sound.{Shows}
+use Rattle.rules.proofs.Part.{legal-front, legal-back}
+use Rattle.rules.proofs.Place.{free-at}
+use Rattle.rules.proofs.Named.{byte-at}
 use Rattle.rules.proofs.Store.{Edition}
 use Rattle.rules.proofs.Longest.{free-longest, longest-short}
 use Rattle.rules.proofs.Follow.{oldest, oldest-gone}
@@ -74,6 +78,44 @@ runs-gone k ks e a (c ∷ pre) n post q b8 k6 l =
     let off = runs-gone k ks (e + a + c .len) 0 pre n post (omega arith) (omega arith) k6 (l .2) in
     rw (ne-eqb (nameOf (e + a)) k (omega arith), on, off) refl ∙ sym (runs-join ks e a c (release (pre ++ busy n ∷ post) (length pre)))
 
+-- A RUN HOLDS ITS CHUNKS: a run of a bytes that has begun at byte e lies inside one of the runs
+run-grows : (ks : List ℕ) (e a : ℕ) (cs : List Chunk) → 0 < a → Inside (runsFrom ks e a cs) e a
+unfolding runsFrom
+run-grows ks e a [] p = rw (ne-eqb a 0 (omega arith)) (e, a, List·Memᴰ·head refl, omega arith, omega arith)
+run-grows ks e a (c ∷ cs) p = go (pick (c .used) (listed (nameOf (e + a)) ks) true) (run-grows ks e (a + c .len) cs (omega arith))
+  where
+    go : (t : Bool) → Inside (runsFrom ks e (a + c .len) cs) e (a + c .len)
+        → Inside (pick t (runsFrom ks e (a + c .len) cs) (ended e a (runsFrom ks (e + a + c .len) 0 cs))) e a
+    go true r = let u = r .4 in (r .0, r .1, r .2, r .3, omega arith)
+    go false r = rw (ne-eqb a 0 (omega arith)) (e, a, List·Memᴰ·head refl, omega arith, omega arith)
+
+-- and so does a chunk that is free or cached
+run-holds : (ks : List ℕ) (e a : ℕ) (pre : List Chunk) (c : Chunk) (post : List Chunk) → pick (c .used) (listed (nameOf (e + a + total pre)) ks) true ≡ true
+    → 0 < c .len → Inside (runsFrom ks e a (pre ++ c ∷ post)) (e + a + total pre) (c .len)
+unfolding runsFrom
+run-holds ks e a [] c post o p =
+    let z : e + a + 0 ≡ e + a = add-zero (e + a) in
+    let o′ : pick (c .used) (listed (nameOf (e + a)) ks) true ≡ true = ap (λ (b : ℕ). pick (c .used) (listed (nameOf b) ks) true) (sym z) ∙ o in
+    rw o′ (let r = run-grows ks e (a + c .len) post (omega arith) in let u = r .3 in let v = r .4 in (r .0, r .1, r .2, omega arith, omega arith))
+run-holds ks e a (d ∷ pre) c post o p =
+    let x : e + (a + d .len) + total pre ≡ e + a + (d .len + total pre) = omega arith in
+    let y : e + a + d .len + 0 + total pre ≡ e + a + (d .len + total pre) = omega arith in
+    go (pick (d .used) (listed (nameOf (e + a)) ks) true)
+    (run-holds ks e (a + d .len) pre c post (ap (λ (b : ℕ). pick (c .used) (listed (nameOf b) ks) true) x ∙ o) p)
+    (run-holds ks (e + a + d .len) 0 pre c post (ap (λ (b : ℕ). pick (c .used) (listed (nameOf b) ks) true) y ∙ o) p)
+  where
+    behind : (t : Bool) (F : List Slot) → Inside F (e + a + d .len + 0 + total pre) (c .len)
+        → Inside (pick t F (slot (nameOf e) a ∷ F)) (e + a + (d .len + total pre)) (c .len)
+    behind true F r = let u = r .3 in let v = r .4 in (r .0, r .1, r .2, omega arith, omega arith)
+    behind false F r = let u = r .3 in let v = r .4 in (r .0, r .1, List·Memᴰ·tail (r .2), omega arith, omega arith)
+
+    go : (t : Bool) → Inside (runsFrom ks e (a + d .len) (pre ++ c ∷ post)) (e + (a + d .len) + total pre) (c .len)
+        → Inside (runsFrom ks (e + a + d .len) 0 (pre ++ c ∷ post)) (e + a + d .len + 0 + total pre) (c .len)
+        → Inside (pick t (runsFrom ks e (a + d .len) (pre ++ c ∷ post)) (ended e a (runsFrom ks (e + a + d .len) 0 (pre ++ c ∷ post))))
+        (e + a + (d .len + total pre)) (c .len)
+    go true r q = let u = r .3 in let v = r .4 in (r .0, r .1, r .2, omega arith, omega arith)
+    go false r q = behind (eqb a 0) (runsFrom ks (e + a + d .len) 0 (pre ++ c ∷ post)) q
+
 -- the longest free chunk is the greatest of the free lengths
 pub longest-greatest : (b : ℕ) (cs : List Chunk) → greatest (frees b cs) ≡ longest cs
 unfolding frees
@@ -125,3 +167,17 @@ module _ {S : Type 0} {op : Ops S Figures} {most places : ℕ} (E : Edition op m
         λ f. let a = longest-short 0 t (withoutCacheM m .cs) p f in omega arith,
         λ q x n i. let a = free-longest 0 (withoutCacheM m .cs) x n i in omega arith,
       )
+
+  -- EVERY FREE CHUNK LIES INSIDE one of the merged layout
+  pub free-inside : (s : S) (m : Model) → Sh s m → (x n : ℕ) → In (slot x n) (frees 0 (m .cs)) → Inside (frees 0 (withoutCacheM m .cs)) (byteOf x) n
+  free-inside s m h x n i =
+      let f = free-at 0 (m .cs) (slot x n) i in
+      let l = subst Legal (f .is) (h .legal) in
+      let lp = legal-front (f .pre) (free n ∷ f .post) l in
+      let n16 : 16 ≤ n = (legal-back (f .pre) (free n ∷ f .post) l) .0 in
+      let b = byte-at (f .pre) x lp (f .named) in
+      let r = run-holds (m .figs .cached) 0 0 (f .pre) (free n) (f .post) refl (omega arith) in
+      let q = subst (λ F. Inside F (0 + 0 + total (f .pre)) n) (ap (runsFrom (m .figs .cached) 0 0) (sym (f .is)) ∙ runs-are-free s m h) r in
+      let u = q .3 in
+      let v = q .4 in
+      (q .0, q .1, q .2, omega arith, omega arith)

@@ -1,11 +1,11 @@
 -- THE RUNS of touching chunks that are free or cached, as a person sees them in the layout: what emptying the cache makes one free chunk of each.
 use mathlib.Core.Bool.{true}
 use mathlib.Core.List.{List, [], _∷_}
-use Prim.Native.Nat.{ℕ, _+_, max}
+use Prim.Native.Nat.{ℕ, _+_, _≤_, max}
 use lib.Dec.{eqb}
 use Rattle.words.specs.Choice.{pick}
 use Rattle.rules.specs.Chunks.{Chunk}
-use Rattle.rules.specs.Exact.{Slot, slot}
+use Rattle.rules.specs.Exact.{Slot, slot, In}
 use Rattle.rules.specs.Rules.{nameOf, listed}
 use Rattle.rules.specs.Machine.{Model}
 
@@ -29,3 +29,7 @@ freeRuns m = runsFrom (m .figs .cached) 0 0 (m .cs)
 abbrev pub greatest : List Slot → ℕ
 greatest [] = 0
 greatest (t ∷ F) = max (t .len) (greatest F)
+
+-- the n bytes from byte b on lie inside one of F
+abbrev pub Inside : List Slot → ℕ → ℕ → Type 0
+Inside F b n = (e : ℕ) × (l : ℕ) × In (slot (nameOf e) l) F × (e ≤ b) × (b + n ≤ e + l)
