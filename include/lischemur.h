@@ -33,7 +33,7 @@
  *   RISC-V     memcpy and memset; for the map __udivdi3
  *
  * Header and library belong together. What crosses the door has a layout with a number, LISCHEMUR_LAYOUT, and the library's
- * functions carry it in their names. If the linker says that lischemur_make_needs_library_of_layout_3 is undefined (the number
+ * functions carry it in their names. If the linker says that lischemur_make_needs_library_of_layout_4 is undefined (the number
  * is this header's), the library is of another layout: take header and library from the same build. If it says that
  * lischemur_make is undefined, a source was compiled with a header from before layout 2: compile it again with this one. For a
  * microcontroller the names end in its architecture too (_for_armv7em), so that the library of one does not go into an image
@@ -67,8 +67,8 @@ extern "C" {
 #endif
 
 /* The version, and the number of the layout of what crosses the door, which is the version's second number too. */
-#define LISCHEMUR_VERSION "0.3.0"
-#define LISCHEMUR_LAYOUT 3
+#define LISCHEMUR_VERSION "0.4.0"
+#define LISCHEMUR_LAYOUT 4
 
 /* How the library's names end on a microcontroller: in the architecture that it is compiled for (meter/parts has the list). The compiler
    names it by the macros that Arm and RISC-V define for C. */
@@ -105,6 +105,10 @@ extern "C" {
 #define lischemur_committed LISCHEMUR_OF(lischemur_committed, LISCHEMUR_LAYOUT, LISCHEMUR_PART)
 #define lischemur_peak LISCHEMUR_OF(lischemur_peak, LISCHEMUR_LAYOUT, LISCHEMUR_PART)
 #define lischemur_high_water LISCHEMUR_OF(lischemur_high_water, LISCHEMUR_LAYOUT, LISCHEMUR_PART)
+#define lischemur_one_hand_out LISCHEMUR_OF(lischemur_one_hand_out, LISCHEMUR_LAYOUT, LISCHEMUR_PART)
+#define lischemur_one_take_back LISCHEMUR_OF(lischemur_one_take_back, LISCHEMUR_LAYOUT, LISCHEMUR_PART)
+#define lischemur_one_audit LISCHEMUR_OF(lischemur_one_audit, LISCHEMUR_LAYOUT, LISCHEMUR_PART)
+#define lischemur_one_write_map LISCHEMUR_OF(lischemur_one_write_map, LISCHEMUR_LAYOUT, LISCHEMUR_PART)
 
 /* The limits: a heap has an odd number of words, and a size above the largest is refused. */
 #define LISCHEMUR_LEAST_WORDS UINT32_C(5)
@@ -150,7 +154,7 @@ enum lischemur_number {
     LISCHEMUR_DONE = 0,       /* the value is the payload's offset for a handout, the number of lines for a map, else 0 */
     LISCHEMUR_ZERO_SIZE = 1,  /* zero bytes were asked for */
     LISCHEMUR_TOO_LARGE = 2,  /* more than LISCHEMUR_MOST_SIZE bytes were asked for */
-    LISCHEMUR_NO_FIT = 3,     /* neither the cached chunk nor a listed one serves; a listed one has to reach LISCHEMUR_SERVES(size) */
+    LISCHEMUR_NO_FIT = 3,     /* no cached chunk serves and no listed one; a listed one has to reach LISCHEMUR_SERVES(size) */
     LISCHEMUR_NOT_LIVE = 4,   /* no payload that is handed out starts at this offset: a second free, say */
     LISCHEMUR_DAMAGED = 5,    /* record and words are not sound together, or no heap was made */
     LISCHEMUR_BAD_LENGTH = 6, /* from making: not an accepted number of words (odd, 5 to 65,529) */
@@ -167,13 +171,13 @@ enum lischemur_number {
 typedef struct lischemur_record {
     uint16_t prev[6];   /* of each list, the link of its last chunk */
     uint16_t next[6];   /* of each list, the link of its first chunk */
+    uint16_t cached[4]; /* the links of the cached chunks, oldest first; 0 for an unused place, and those come last */
     uint32_t words;     /* how many words the heap has; 0 before one is made */
     uint32_t in_use;    /* what tasks hold: the sum of the live chunks' lengths, headers included */
-    uint32_t committed; /* that and the cached chunk: the sum of the used chunks' lengths */
+    uint32_t committed; /* that and the cached chunks: the sum of the used chunks' lengths */
     uint32_t peak;      /* the largest that committed has been */
     uint32_t high;      /* high water: the largest end, in bytes, of a chunk that was handed out */
-    uint16_t cached;    /* the link of the cached chunk, 0 for none */
-    uint16_t fresh;     /* 1 if high water has risen since the mark was last read, else 0; any other value is damaged */
+    uint32_t fresh;     /* 1 if high water has risen since the mark was last read, else 0; any other value is damaged */
 } lischemur_record;
 
 /* What making, handing out, taking back and writing the map reply. */
@@ -222,13 +226,26 @@ lischemur_reply lischemur_write_map(
 lischemur_marking lischemur_mark(lischemur_record record, uint32_t stacklets);
 
 /*
- * In use: what tasks hold, which is the figure to show. Committed: that and the cached chunk, which is free for the next handout that
- * it fits. Peak follows committed. With high water these are the record's fields of these names, of any record.
+ * In use: what tasks hold, which is the figure to show. Committed: that and the cached chunks, each of which is free for the next handout
+ * that it fits. Peak follows committed. With high water these are the record's fields of these names, of any record.
  */
 uint32_t lischemur_in_use(lischemur_record record);
 uint32_t lischemur_committed(lischemur_record record);
 uint32_t lischemur_peak(lischemur_record record);
 uint32_t lischemur_high_water(lischemur_record record);
+
+/*
+ * One cache place
+ *
+ * A chunk that is taken back is cached, for the next handout that it fits: up to four of them, and a fifth first releases the oldest. These
+ * are the calls of a heap that caches one chunk alone and in all else is the same. Making, the mark and the readers serve both. Choose for
+ * each heap once: to a call here a record with two or more cached chunks is damaged, 5.
+ */
+lischemur_reply lischemur_one_hand_out(lischemur_record *record, uint32_t *heap, uint64_t heap_words, uint32_t size);
+lischemur_reply lischemur_one_take_back(lischemur_record *record, uint32_t *heap, uint64_t heap_words, uint32_t payload);
+uint32_t lischemur_one_audit(lischemur_record record, const uint32_t *heap, uint64_t heap_words);
+lischemur_reply lischemur_one_write_map(
+    lischemur_record record, const uint32_t *heap, uint64_t heap_words, char *room, uint64_t room_bytes);
 
 /* The payload at an offset that a handout replied. */
 static inline void *lischemur_pointer(uint32_t *heap, uint32_t payload)
@@ -262,14 +279,14 @@ static inline bool lischemur_aligned(const uint32_t *heap)
 
 LISCHEMUR_ASSERT(offsetof(lischemur_record, prev) == 0, "the record's layout");
 LISCHEMUR_ASSERT(offsetof(lischemur_record, next) == 12, "the record's layout");
-LISCHEMUR_ASSERT(offsetof(lischemur_record, words) == 24, "the record's layout");
-LISCHEMUR_ASSERT(offsetof(lischemur_record, in_use) == 28, "the record's layout");
-LISCHEMUR_ASSERT(offsetof(lischemur_record, committed) == 32, "the record's layout");
-LISCHEMUR_ASSERT(offsetof(lischemur_record, peak) == 36, "the record's layout");
-LISCHEMUR_ASSERT(offsetof(lischemur_record, high) == 40, "the record's layout");
-LISCHEMUR_ASSERT(offsetof(lischemur_record, cached) == 44, "the record's layout");
-LISCHEMUR_ASSERT(offsetof(lischemur_record, fresh) == 46, "the record's layout");
-LISCHEMUR_ASSERT(sizeof(lischemur_record) == 48, "the record's size");
+LISCHEMUR_ASSERT(offsetof(lischemur_record, cached) == 24, "the record's layout");
+LISCHEMUR_ASSERT(offsetof(lischemur_record, words) == 32, "the record's layout");
+LISCHEMUR_ASSERT(offsetof(lischemur_record, in_use) == 36, "the record's layout");
+LISCHEMUR_ASSERT(offsetof(lischemur_record, committed) == 40, "the record's layout");
+LISCHEMUR_ASSERT(offsetof(lischemur_record, peak) == 44, "the record's layout");
+LISCHEMUR_ASSERT(offsetof(lischemur_record, high) == 48, "the record's layout");
+LISCHEMUR_ASSERT(offsetof(lischemur_record, fresh) == 52, "the record's layout");
+LISCHEMUR_ASSERT(sizeof(lischemur_record) == 56, "the record's size");
 LISCHEMUR_ASSERT(offsetof(lischemur_reply, number) == 0, "the reply's layout");
 LISCHEMUR_ASSERT(offsetof(lischemur_reply, value) == 4, "the reply's layout");
 LISCHEMUR_ASSERT(offsetof(lischemur_reply, compared) == 8, "the reply's layout");
@@ -277,7 +294,7 @@ LISCHEMUR_ASSERT(sizeof(lischemur_reply) == 12, "the reply's size");
 LISCHEMUR_ASSERT(offsetof(lischemur_marking, mark) == 0, "the marking's layout");
 LISCHEMUR_ASSERT(offsetof(lischemur_marking, changed) == 8, "the marking's layout");
 LISCHEMUR_ASSERT(offsetof(lischemur_marking, record) == 12, "the marking's layout");
-LISCHEMUR_ASSERT(sizeof(lischemur_marking) == 64, "the marking's size");
+LISCHEMUR_ASSERT(sizeof(lischemur_marking) == 72, "the marking's size");
 
 #ifdef __cplusplus
 }

@@ -8,12 +8,15 @@
 target triple = "thumbv7em-none-eabi"
 
 %reply = type { i32, i32, i32 }
-%record = type [48 x i8]
+%record = type [56 x i8]
 
 declare { i64, i32 } @lischemur_make.proved(ptr, ptr, i64, i32)
 declare { i64, i32 } @lischemur_hand_out.proved(ptr, ptr, i64, i32)
 declare { i64, i32 } @lischemur_take_back.proved(ptr, ptr, i64, i32)
 declare { i64, i32 } @lischemur_write_map.proved(ptr byval(%record) align 4, ptr, i64, ptr, i64)
+declare { i64, i32 } @lischemur_one_hand_out.proved(ptr, ptr, i64, i32)
+declare { i64, i32 } @lischemur_one_take_back.proved(ptr, ptr, i64, i32)
+declare { i64, i32 } @lischemur_one_write_map.proved(ptr byval(%record) align 4, ptr, i64, ptr, i64)
 
 define void @lischemur_make(ptr sret(%reply) align 4 %to, ptr %record, ptr %heap, i64 %length, i32 %words) nounwind {
   %r = call { i64, i32 } @lischemur_make.proved(ptr %record, ptr %heap, i64 %length, i32 %words)
@@ -35,6 +38,24 @@ define void @lischemur_take_back(ptr sret(%reply) align 4 %to, ptr %record, ptr 
 
 define void @lischemur_write_map(ptr sret(%reply) align 4 %to, ptr byval(%record) align 4 %record, ptr %heap, i64 %length, ptr %room, i64 %bytes) nounwind {
   %r = call { i64, i32 } @lischemur_write_map.proved(ptr byval(%record) align 4 %record, ptr %heap, i64 %length, ptr %room, i64 %bytes)
+  call fastcc void @put({ i64, i32 } %r, ptr %to)
+  ret void
+}
+
+define void @lischemur_one_hand_out(ptr sret(%reply) align 4 %to, ptr %record, ptr %heap, i64 %length, i32 %size) nounwind {
+  %r = call { i64, i32 } @lischemur_one_hand_out.proved(ptr %record, ptr %heap, i64 %length, i32 %size)
+  call fastcc void @put({ i64, i32 } %r, ptr %to)
+  ret void
+}
+
+define void @lischemur_one_take_back(ptr sret(%reply) align 4 %to, ptr %record, ptr %heap, i64 %length, i32 %payload) nounwind {
+  %r = call { i64, i32 } @lischemur_one_take_back.proved(ptr %record, ptr %heap, i64 %length, i32 %payload)
+  call fastcc void @put({ i64, i32 } %r, ptr %to)
+  ret void
+}
+
+define void @lischemur_one_write_map(ptr sret(%reply) align 4 %to, ptr byval(%record) align 4 %record, ptr %heap, i64 %length, ptr %room, i64 %bytes) nounwind {
+  %r = call { i64, i32 } @lischemur_one_write_map.proved(ptr byval(%record) align 4 %record, ptr %heap, i64 %length, ptr %room, i64 %bytes)
   call fastcc void @put({ i64, i32 } %r, ptr %to)
   ret void
 }

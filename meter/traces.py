@@ -28,6 +28,7 @@ DAMAGED = 20  # damaged histories, of about 400 requests each
 
 LINES = 10_000  # lines of the random trace
 FIRST = 6_000  # of these, on the largest heap
+CACHE_PLACES = 4  # of the calls that the image makes, and of the record
 SEED = 20
 
 MAKE, HAND_OUT, TAKE_BACK, AUDIT = range(4)  # the audit is no frame of a trace, only a call to be counted
@@ -52,7 +53,7 @@ WHOLE = (
 
 def night():
     """The night of firmware/meter.c: its frames up to each map that it prints, and the lines of that map, from the model."""
-    trace, frames, maps = model.Trace(), [], []
+    trace, frames, maps = model.Trace(CACHE_PLACES), [], []
 
     def ask(kind, number):
         frames.append(b"%02X%08X\n" % (kind, number))
@@ -94,7 +95,7 @@ def no_frame(rng):
 def random_trace():
     """The random trace: its frames, its requests (none for what is no frame) and the lines that the model gives for it."""
     rng = random.Random(SEED)
-    trace = model.Trace()
+    trace = model.Trace(CACHE_PLACES)
     frames, requests, wanted, live, old = [], [], [], [], [4]
     for at in range(LINES):
         draw = rng.random()
@@ -137,7 +138,7 @@ def state_line(heap):
     """The line on a state, as firmware/trace.c writes it."""
     r, total = heap.record, 2166136261
     numbers = [n for pair in zip(r.prev, r.next) for n in pair]
-    numbers += [r.words, r.in_use, r.committed, r.peak, r.high, r.cached, r.fresh, heap.lent, *heap.memory]
+    numbers += [r.words, r.in_use, r.committed, r.peak, r.high, *model.in_places(r.cached, CACHE_PLACES), r.fresh, heap.lent, *heap.memory]
     for number in numbers:
         total = (total ^ int(number)) * 16777619 % 2**32
     return "%02X%08X" % (model.DONE if heap.sound() else model.DAMAGED, total)
@@ -156,7 +157,7 @@ def damaged(histories=DAMAGED, rounds=200):
     model.Heap.dump, kept = state_line, model.Heap.dump
     lines, wanted, refused = [], [], 0
     for seed in range(histories):
-        data, options, answers, met = compare.damaged_history(seed, rounds)
+        data, options, answers, met = compare.damaged_history(seed, CACHE_PLACES, rounds)
         lines.append(damage_line("reset", 0, int(options[1])))
         for line in data.splitlines(keepends=True):
             if line.startswith(b"!"):

@@ -22,7 +22,7 @@ mod port;
 use measure::{ratio, Ratio, REPEATS, SPELLS};
 use numbers::Numbers;
 use oracle::Oracle;
-use port::DOOR;
+use port::ONE_DOOR;
 use states::{bring, long, Heap, Requests, Shape, WORDS};
 use std::fs;
 use std::hint::black_box;
@@ -100,7 +100,7 @@ impl Row {
 
 /// The audit alone against one walk of the same words.
 fn audit_ratio(name: &str, target: Option<f64>, shape: &Shape) -> Row {
-    let mut heap = Heap::made(DOOR, shape.words);
+    let mut heap = Heap::made(ONE_DOOR, shape.words);
     bring(&mut heap, shape);
     let (used, free) = heap.counts();
     assert_eq!(heap.audit(), 1, "the heap is sound");
@@ -143,7 +143,7 @@ impl Cycle {
 
 /// Our calls against the Rust's: the same requests put to both.
 fn call_ratio(name: &str, oracle: &mut Oracle, shape: &Shape, sizes: &[u32]) -> Row {
-    let mut heap = Heap::made(DOOR, shape.words);
+    let mut heap = Heap::made(ONE_DOOR, shape.words);
     bring(&mut heap, shape);
     let mut ours = Cycle::new(&mut heap, sizes);
     oracle.make(shape.words);

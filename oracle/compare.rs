@@ -1,14 +1,19 @@
-//! The comparison with the Rust at scale: the proved library, linked as C links it, and the oracle in one process.
+//! The comparison at scale: the proved library, linked as C links it, beside the oracle, and beside the rules without words, in one process.
 //!
 //!     compare [SECONDS]
 //!
 //! Every short history on tiny heaps, frees in every order and heaps of every length up to 4,001 are run whole; random histories, and
 //! damage to the heaps that they leave, fill the rest of the seconds (110 if not said). A difference is shown by the
 //! smallest history that could be found, and ends the run with status 1. docs/ORACLE.md says what the Rust is asked and what it
-//! is not; compare-parts/pair.rs what is compared; compare-parts/audit.rs is the audit that the proved one is compared with.
+//! is not; compare-parts/pair.rs what is compared with it. The Rust has one cache place; each configuration of the library, by its number of places, is
+//! also compared with compare-parts/plain.rs, as compare-parts/beside.rs says. compare-parts/audit.rs is the audit that the proved one is compared with.
 
 #[path = "compare-parts/audit.rs"]
 mod audit;
+#[path = "compare-parts/beside.rs"]
+mod beside;
+#[path = "compare-parts/cached.rs"]
+mod cached;
 #[path = "compare-parts/damage.rs"]
 mod damage;
 #[path = "compare-parts/door.rs"]
@@ -17,13 +22,16 @@ mod door;
 mod numbers;
 #[path = "compare-parts/pair.rs"]
 mod pair;
+#[path = "compare-parts/plain.rs"]
+mod plain;
 #[path = "compare-parts/port.rs"]
 mod port;
 
+use beside::Beside;
 use damage::State;
 use numbers::Numbers;
 use pair::{History, Pair, Step, LARGEST_SIZE};
-use port::{Record, Reply};
+use port::{Kind, Record, Reply};
 use std::process::exit;
 use std::time::{Duration, Instant};
 
@@ -35,9 +43,58 @@ fn making(words: u32) -> Step {
     Step::Make { lent: words, words }
 }
 
+/// The port and a judge, side by side.
+trait Sides {
+    /// Play a history; what differs and after which step, if anything does.
+    fn play(&mut self, history: &History) -> Result<(), (usize, String)>;
+    /// Play a history and say each step with its answers.
+    fn tell(&mut self, history: &History) -> String;
+    /// How many payloads are live.
+    fn live_count(&self) -> u32;
+    /// The port's record and words.
+    fn state(&self) -> State;
+    /// The port's configuration.
+    fn kind(&self) -> Kind;
+    /// Requests put to both so far.
+    fn requests(&self) -> u64;
+    /// The words of the longest heap that the judge can have.
+    fn most_words(&self) -> u32;
+}
+
+/// What the two kinds of sides have by the same names.
+macro_rules! sides {
+    ($sides:ty, $most_words:expr) => {
+        impl Sides for $sides {
+            fn play(&mut self, history: &History) -> Result<(), (usize, String)> {
+                self.play(history)
+            }
+            fn tell(&mut self, history: &History) -> String {
+                self.tell(history)
+            }
+            fn live_count(&self) -> u32 {
+                self.live_count()
+            }
+            fn state(&self) -> State {
+                self.state()
+            }
+            fn kind(&self) -> Kind {
+                self.kind()
+            }
+            fn requests(&self) -> u64 {
+                self.requests
+            }
+            fn most_words(&self) -> u32 {
+                $most_words
+            }
+        }
+    };
+}
+sides!(Pair, oracle::MOST_WORDS);
+sides!(Beside, 65_529);
+
 /// What has been compared so far.
-struct Comparison {
-    pair: Pair,
+struct Comparison<S: Sides> {
+    pair: S,
     /// Histories played so far; in every second one the Rust's payloads are left as it hands them out.
     played: u64,
     /// Audits that said yes and no, alike on both sides.
@@ -47,7 +104,18 @@ struct Comparison {
     calls: u64,
 }
 
-impl Comparison {
+impl<S: Sides> Comparison<S> {
+    /// Nothing yet.
+    fn new(pair: S) -> Self {
+        Comparison {
+            pair,
+            played: 0,
+            sound: 0,
+            damaged: 0,
+            calls: 0,
+        }
+    }
+
     /// Play a history. A difference is the end.
     fn play(&mut self, name: &str, history: &mut History) {
         self.played += 1;
@@ -164,12 +232,12 @@ impl Comparison {
         }
     }
 
-    /// Every accepted length up to 4,001, and of the longer ones every sixteenth up to the Rust's longest: the heap's own size and
+    /// Every accepted length up to 4,001, and of the longer ones every sixteenth up to the judge's longest: the heap's own size and
     /// what is near it, and a few requests.
     fn every_length(&mut self) {
         for words in (5..4001)
             .step_by(2)
-            .chain((4023..=oracle::MOST_WORDS).step_by(32))
+            .chain((4023..=self.pair.most_words()).step_by(32))
         {
             let own = 4 * words - 8;
             let asks = [own + 1, own, own - own / 3, 12].map(Step::Ask);
@@ -218,8 +286,9 @@ impl Comparison {
 
     /// Whether the two audits agree on a state, and the calls do what a sound or a damaged one asks of them.
     fn judge(&mut self, state: &State, numbers: &mut Numbers) -> Result<(), String> {
-        let sound = audit::sound(&state.record, &state.words);
-        let said = port::audit(&state.record, &state.words);
+        let Kind { places, door } = self.pair.kind();
+        let sound = audit::sound(&state.record, &state.words, places);
+        let said = door.audit(&state.record, &state.words);
         if said != sound as u32 {
             return Err(format!(
                 "the proved audit says {said}, the plain one {sound}"
@@ -232,12 +301,12 @@ impl Comparison {
         }
         let size = numbers.pick(&[1, 12, 100, 508, 600]);
         let payload = 8 * numbers.below(state.words.len() as u32 / 2 + 1) + 4;
-        self.judge_call(state, sound, &[0, 3], |r, w| port::hand_out(r, w, size))?;
-        self.judge_call(state, sound, &[0, 4], |r, w| port::take_back(r, w, payload))?;
+        self.judge_call(state, sound, &[0, 3], |r, w| door.hand_out(r, w, size))?;
+        self.judge_call(state, sound, &[0, 4], |r, w| door.take_back(r, w, payload))?;
         if numbers.one_in(8) {
-            self.judge_call(state, true, &[1], |r, w| port::hand_out(r, w, 0))?;
+            self.judge_call(state, true, &[1], |r, w| door.hand_out(r, w, 0))?;
             self.judge_call(state, true, &[2], |r, w| {
-                port::hand_out(r, w, LARGEST_SIZE + 1)
+                door.hand_out(r, w, LARGEST_SIZE + 1)
             })?;
         }
         Ok(())
@@ -264,7 +333,8 @@ impl Comparison {
         if reply.number != 0 && after != *state {
             return Err(format!("a call answers {reply} and changes something"));
         }
-        if reply.number == 0 && !audit::sound(&after.record, &after.words) {
+        if reply.number == 0 && !audit::sound(&after.record, &after.words, self.pair.kind().places)
+        {
             return Err(format!("a call answers {reply} and leaves no sound heap"));
         }
         if reply.value != 0 && !is_empty(&after.words, reply.value as usize / 4) {
@@ -273,23 +343,34 @@ impl Comparison {
         Ok(())
     }
 
+    /// Say what has been done.
+    fn done(&self, what: &str) {
+        println!("compare: {what}: {} requests", self.pair.requests());
+    }
+}
+
+/// A history that leaves two listed chunks, live ones and, with four places, cached ones.
+fn short_history() -> History {
+    let steps = [
+        making(65),
+        Step::Ask(12),
+        Step::Ask(60),
+        Step::Ask(12),
+        Step::Free(0),
+        Step::Free(0),
+    ];
+    History {
+        words: 65,
+        fill: 3,
+        alone: false,
+        steps: steps.to_vec(),
+    }
+}
+
+impl Comparison<Pair> {
     /// The comparison itself is sharp: a change of any field, or of any word, is seen as a difference.
     fn is_sharp(&mut self) {
-        let steps = [
-            making(65),
-            Step::Ask(12),
-            Step::Ask(60),
-            Step::Ask(12),
-            Step::Free(0),
-            Step::Free(0),
-        ];
-        let mut history = History {
-            words: 65,
-            fill: 3,
-            alone: false,
-            steps: steps.to_vec(),
-        };
-        self.play("a short history", &mut history);
+        self.play("a short history", &mut short_history());
         for index in 0..65 + 8 {
             self.pair.memory[index] ^= 1;
             assert!(
@@ -313,18 +394,14 @@ impl Comparison {
         );
     }
 
-    /// Say what has been done.
-    fn done(&self, what: &str) {
-        println!("compare: {what}: {} requests", self.pair.requests);
-    }
-
     /// The longest heap of all, which is too long for the Rust: made, used and found sound.
     fn longest(&mut self) {
         let mut state = State {
             record: Record::default(),
             words: vec![0; 65_529],
         };
-        let made = port::make(&mut state.record, &mut state.words, 65_529);
+        let door = self.pair.kind().door;
+        let made = door.make(&mut state.record, &mut state.words, 65_529);
         assert_eq!(
             (made.number, made.value, made.compared),
             (0, 0, 0),
@@ -333,16 +410,79 @@ impl Comparison {
         let mut numbers = Numbers::new(65_529);
         for _ in 0..50 {
             let size = numbers.within(1, 3000);
-            let reply = port::hand_out(&mut state.record, &mut state.words, size);
+            let reply = door.hand_out(&mut state.record, &mut state.words, size);
             assert_eq!(reply.number, 0, "there is room for {size} bytes");
             if numbers.one_in(2) {
-                port::take_back(&mut state.record, &mut state.words, reply.value);
+                door.take_back(&mut state.record, &mut state.words, reply.value);
             }
             if let Err(what) = self.judge(&state, &mut numbers) {
                 eprintln!("compare: 65,529 words: {what}");
                 exit(1);
             }
         }
+    }
+}
+
+impl Comparison<Beside> {
+    /// The comparison itself is sharp: a change of any field, or of any tag, link word, word behind the heap or word that a task holds, is seen.
+    fn is_sharp(&mut self) {
+        self.play("a short history", &mut short_history());
+        let seen: Vec<usize> = (0..65 + 8)
+            .filter(|index| {
+                self.pair.memory[*index] ^= 1;
+                let seen = self.pair.difference().is_some();
+                self.pair.memory[*index] ^= 1;
+                seen
+            })
+            .collect();
+        assert_eq!(
+            seen,
+            self.pair.told_words(),
+            "a change of a word that the rules tell is not seen"
+        );
+        let record = self.pair.record;
+        for change in changes() {
+            change(&mut self.pair.record);
+            assert!(
+                self.pair.difference().is_some(),
+                "a change of the record is not seen"
+            );
+            self.pair.record = record;
+        }
+        assert!(
+            self.pair.difference().is_none(),
+            "a difference is seen where there is none"
+        );
+    }
+
+    /// Everything that is run whole: short histories, frees in every order, heaps of many lengths.
+    fn whole(&mut self) {
+        self.is_sharp();
+        for words in [9, 13, 17, 21] {
+            self.every_history(words, &[12, 20, 28], 6);
+        }
+        self.every_order([12, 20, 28]);
+        self.every_length();
+        let places = self.pair.kind().places;
+        assert_eq!(self.pair.most_cached, places, "the cache is filled");
+        self.done(&format!(
+            "cache places {places}, beside the rules without words"
+        ));
+    }
+
+    /// Say how much was compared.
+    fn total(&self) {
+        println!(
+            "compare: cache places {}: {} requests put to the rules without words and to the port, no difference; {} headers compared; {} states audited \
+             alike, {} sound and {} damaged, with {} calls on them",
+            self.pair.kind().places,
+            self.pair.requests,
+            self.pair.headers,
+            self.sound + self.damaged,
+            self.sound,
+            self.damaged,
+            self.calls
+        );
     }
 }
 
@@ -360,9 +500,11 @@ fn changes() -> Vec<Box<dyn Fn(&mut Record)>> {
         Box::new(|r| r.committed ^= 8),
         Box::new(|r| r.peak ^= 8),
         Box::new(|r| r.high ^= 8),
-        Box::new(|r| r.cached ^= 1),
         Box::new(|r| r.fresh ^= 1),
     ];
+    for place in 0..4 {
+        all.push(Box::new(move |r| r.cached[place] ^= 1));
+    }
     for class in 0..6 {
         all.push(Box::new(move |r| r.prev[class] ^= 1));
         all.push(Box::new(move |r| r.next[class] ^= 1));
@@ -467,13 +609,8 @@ fn seconds() -> u64 {
 /// Compare, and say how much was compared.
 fn main() {
     let end = Instant::now() + Duration::from_secs(seconds());
-    let mut all = Comparison {
-        pair: Pair::only(),
-        played: 0,
-        sound: 0,
-        damaged: 0,
-        calls: 0,
-    };
+    let mut all = Comparison::new(Pair::only());
+    let mut plain = port::KINDS.map(|kind| Comparison::new(Beside::new(kind)));
     for _ in 0..2 {
         all.is_sharp();
     }
@@ -486,12 +623,15 @@ fn main() {
     all.done("and five payloads freed in every order");
     all.every_length();
     all.done("and heaps of every length up to 4,001 words, and of some up to 65,527");
+    plain.iter_mut().for_each(Comparison::whole);
     let whole = all.pair.requests;
     let mut histories = 0;
     while histories < 100 || Instant::now() < end {
         histories += 1;
         all.random(histories);
+        plain.iter_mut().for_each(|one| one.random(histories));
     }
+    plain.iter().for_each(Comparison::total);
     println!(
         "compare: {} requests put to Rust and port, {} of them in {histories} random histories, no difference; {} words compared with the Rust's, \
          {} more, in payloads that it had been left to hand out uncleared, held to 0; {} states audited alike, {} sound and {} damaged, with {} calls \

@@ -12,8 +12,8 @@ class Fault(Exception):
     """The model contradicts the rules."""
 
 
-def random_history(seed, heap=model.Heap):
-    """A random history: its frames, options, and the lines that the model writes for it."""
+def random_history(seed, places, heap=model.Heap):
+    """A random history on a heap with that many cache places: its frames, options, and the lines that the model writes for it."""
     rng = random.Random(seed)
     least, most = rng.choice(((5, 42), (33, 130), (33, 130), (131, 400), (1501, 2500)))
     words = rng.randrange(least, most, 2)
@@ -22,7 +22,7 @@ def random_history(seed, heap=model.Heap):
         options["fill"] = rng.randrange(2**32)
     if rng.random() < 0.2:
         options["marks"] = rng.randrange(4)
-    trace = model.Trace(dump=True, heap=heap, **options)
+    trace = model.Trace(places, dump=True, heap=heap, **options)
     frames, wanted, live, old = [], [], set(), [4]
     wish = rng.choice((0.4, 0.48, 0.55))
     for number in range(rng.randrange(60, 500)):
@@ -80,10 +80,10 @@ def check_fit(heap, kind, size):
         raise Fault("a search for less than 512 that finds a chunk compares one: s = %d, free %s" % (s, lengths))
 
 
-def every_history(words, sizes, depth, heap=model.Heap):
+def every_history(words, sizes, depth, places, heap=model.Heap):
     """Every history of up to so many requests on a heap of so many words, asks of these sizes and all frees:
     frames and the lines that the model writes for them."""
-    trace = model.Trace(words=words, dump=True, heap=heap)
+    trace = model.Trace(places, words=words, dump=True, heap=heap)
     frames, wanted = [], []
 
     def play(history):
@@ -131,25 +131,25 @@ class LeavesTheRemaindersLeftBitClear(model.Heap):
 
 class LowersCommittedWhenOnlyCaching(model.Heap):
     def take_back(self, offset):
-        chunk, empty = self.live(offset) if self.sound() else None, self.record.cached == 0
+        chunk, room = self.live(offset) if self.sound() else None, len(self.record.cached) < self.places
         answer = super().take_back(offset)
-        self.record.committed -= chunk.length if chunk and empty else 0
+        self.record.committed -= chunk.length if chunk and room else 0
         return answer
 
 
 class CountsTheCachedAsInUse(model.Heap):
     def take_back(self, offset):
-        before, empty = self.record.in_use, self.record.cached == 0
+        before, room = self.record.in_use, len(self.record.cached) < self.places
         answer = super().take_back(offset)
-        self.record.in_use = before if empty else self.record.in_use
+        self.record.in_use = before if room else self.record.in_use
         return answer
 
 
 class HandsOutTheCachedUncounted(model.Heap):
     def hand_out(self, size):
-        before, cached = self.record.in_use, self.record.cached
+        before, cached = self.record.in_use, len(self.record.cached)
         answer = super().hand_out(size)
-        self.record.in_use = before if cached and not self.record.cached else self.record.in_use
+        self.record.in_use = before if len(self.record.cached) < cached else self.record.in_use
         return answer
 
 
@@ -169,7 +169,7 @@ class JudgesByTheWordBefore(model.Heap):
     def live(self, offset):
         w = offset // 4 - 1
         chunk = self.chunk(w) if offset % 4 == 0 and 0 <= w < self.record.words - 1 else None
-        return chunk if chunk and chunk.used and chunk.length >= 16 and chunk.link != self.record.cached else None
+        return chunk if chunk and chunk.used and chunk.length >= 16 and chunk.link not in self.record.cached else None
 
     def release(self, chunk):
         if chunk in self.chunks():
@@ -191,8 +191,8 @@ class ListsAtTheTail(model.Heap):
 
 
 class ServesFromTheCacheOnlyWhatFits(model.Heap):
-    def cache_serves(self, s):
-        return super().cache_serves(s) and self.chunk(model.word_of(self.record.cached)).length < s + 512
+    def serves(self, chunk, s):
+        return super().serves(chunk, s) and chunk.length < s + 512
 
 
 class SetsTheFlagAlways(model.Heap):
@@ -243,6 +243,54 @@ class ClearsWhatIsReleased(model.Heap):
         super().release(chunk)
 
 
+class HandsOutTheNewestThatServes(model.Heap):
+    def oldest_serving(self, s):
+        self.record.cached.reverse()
+        chunk = super().oldest_serving(s)
+        self.record.cached.reverse()
+        return chunk
+
+
+class FillsTheGapWithTheNewest(model.Heap):
+    def hand_out(self, size):
+        before = list(self.record.cached)
+        answer = super().hand_out(size)
+        if len(self.record.cached) < len(before):
+            gap = next(at for at, link in enumerate(before) if link not in self.record.cached)
+            self.record.cached = before[:gap] + before[gap + 1 :][-1:] + before[gap + 1 : -1]
+        return answer
+
+
+class ReleasesTheNewest(model.Heap):
+    def take_back(self, offset):
+        if len(self.record.cached) == self.places and self.sound() and self.live(offset):
+            self.record.cached.insert(0, self.record.cached.pop())
+            super().take_back(offset)
+            return model.Answer(model.DONE)
+        return super().take_back(offset)
+
+
+class LooksAtTheOldestAlone(model.Heap):
+    def oldest_serving(self, s):
+        chunk = super().oldest_serving(s)
+        return chunk if chunk and chunk.link == self.record.cached[0] else None
+
+
+class CachesOneMore(model.Heap):
+    def take_back(self, offset):
+        self.places += 1
+        answer = super().take_back(offset)
+        self.places -= 1
+        return answer
+
+
+class KeepsThemByOffset(model.Heap):
+    def take_back(self, offset):
+        answer = super().take_back(offset)
+        self.record.cached.sort()
+        return answer
+
+
 SLIPS = (
     SearchesItsOwnClass,
     FitsBestInClassFive,
@@ -262,4 +310,14 @@ SLIPS = (
     ClearsNoSlack,
     ClearsTheRemainderToo,
     ClearsWhatIsReleased,
+)
+
+# Slips that show with several cache places alone, so that no run against the Rust can tell them
+SLIPS_WITH_PLACES = (
+    HandsOutTheNewestThatServes,
+    FillsTheGapWithTheNewest,
+    ReleasesTheNewest,
+    LooksAtTheOldestAlone,
+    CachesOneMore,
+    KeepsThemByOffset,
 )

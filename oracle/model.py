@@ -6,7 +6,9 @@ words, except which words hold links (for dumps only). docs/ORACLE.md says what 
 
 As a program it is the trace program of the rules, with the harness's options:
 
-    python3 oracle/model.py [--dump] [--words N] [--fill SEED] [--marks STACKLETS] < frames
+    python3 oracle/model.py [--places 1|4] [--dump] [--words N] [--fill SEED] [--marks STACKLETS] < frames
+
+A heap has one cache place, as document 01 and the Rust have it, or four, as W-205 does: four if it is not said.
 
 Offsets are bytes from the heap's start, `w` is a word index, a link is 0 to 5 for a sentinel and
 w + 6 for the header at word w.
@@ -48,10 +50,10 @@ class Record:
     next: list = field(default_factory=lambda: [0] * 6)  # the sentinels' next links
     words: int = 0  # the heap's word count
     in_use: int = 0  # the sum of live lengths: what tasks hold
-    committed: int = 0  # the sum of used lengths: that and the cached chunk
+    committed: int = 0  # the sum of used lengths: that and the cached chunks
     peak: int = 0  # the most that was committed
     high: int = 0  # the largest end of a chunk taken from a list
-    cached: int = 0  # the cached chunk's link, 0 for none
+    cached: list = field(default_factory=list)  # the links in the cache places, oldest first, without the unused ones at the end
     fresh: int = 0  # whether high water was just updated: 1 if it was, else 0
 
 
@@ -101,6 +103,17 @@ def name_of(link):
     return f"s{link}" if link < 6 else f"@{4 * word_of(link)}"
 
 
+def cached_of(links):
+    """The cached chunks by the links in a record's places: without the unused places at the end, which hold 0."""
+    used = [at + 1 for at, link in enumerate(links) if link != 0]
+    return list(links[: max(used, default=0)])
+
+
+def in_places(cached, places):
+    """The links in a record's places for some cached chunks: the chunks' links, and 0 in the places that are left."""
+    return cached + [0] * (places - len(cached))
+
+
 def accepted(words):
     """Whether a heap may have so many words."""
     return LEAST_WORDS <= words <= MOST_WORDS and words % 2 == 1
@@ -140,9 +153,10 @@ def threshold(s):
 class Heap:
     """A record with the memory of which it describes the first part, the lent words."""
 
-    def __init__(self, memory, record=None):
-        """A heap of any words and record, to be judged; or, without a record, memory with no heap made."""
+    def __init__(self, memory, places, record=None):
+        """A heap of any words and record, to be judged; or, without a record, memory with no heap made. It has that many cache places."""
         self.memory = memory
+        self.places = places
         self.record = Record() if record is None else record
         self.lent = 0 if record is None else len(memory)
         self.link_words = set()
@@ -247,9 +261,9 @@ class Heap:
         if not self.sound():
             return Answer(DAMAGED)
         s = rounded(size)
-        if self.cache_serves(s):
-            cached = self.chunk(word_of(self.record.cached))
-            self.record.cached = 0
+        cached = self.oldest_serving(s)
+        if cached is not None:
+            self.record.cached.remove(cached.link)
             self.record.in_use += cached.length
             self.clear(cached)
             return Answer(DONE, cached.payload)
@@ -263,11 +277,14 @@ class Heap:
         self.clear(chunk)
         return Answer(DONE, chunk.payload, compared)
 
-    def cache_serves(self, s):
-        """Whether there is a cached chunk of length at least s and at most s + 512."""
-        if self.record.cached == 0:
-            return False
-        return s <= self.chunk(word_of(self.record.cached)).length <= s + CACHE_SLACK
+    def oldest_serving(self, s):
+        """The oldest cached chunk that serves s, or none."""
+        cached = [self.chunk(word_of(link)) for link in self.record.cached]
+        return next((chunk for chunk in cached if self.serves(chunk, s)), None)
+
+    def serves(self, chunk, s):
+        """Whether a cached chunk has a length of at least s and at most s + 512."""
+        return s <= chunk.length <= s + CACHE_SLACK
 
     def search(self, s):
         """The first listed chunk of length at least s, or none, and how many were compared."""
@@ -320,15 +337,15 @@ class Heap:
         if chunk is None:
             return Answer(NOT_LIVE)
         self.record.in_use -= chunk.length
-        older, self.record.cached = self.record.cached, chunk.link
-        if older != 0:
-            self.release(self.chunk(word_of(older)))
+        if len(self.record.cached) == self.places:
+            self.release(self.chunk(word_of(self.record.cached.pop(0))))
+        self.record.cached.append(chunk.link)
         return Answer(DONE)
 
     def live(self, offset):
         """The live chunk whose payload starts at an offset, or none. Only the tiling tells."""
         for chunk in self.chunks():
-            if chunk.payload == offset and chunk.used and chunk.link != self.record.cached:
+            if chunk.payload == offset and chunk.used and chunk.link not in self.record.cached:
                 return chunk
         return None
 
@@ -411,12 +428,13 @@ class Heap:
         return len(listed) == len(class_by_link)
 
     def figures_right(self, tiling):
-        """Whether the cached chunk is a used one and the counters are what they count."""
+        """Whether the cached chunks are used ones, all different and no more than there are places, and the counters what they count."""
         r = self.record
         used = [chunk for chunk in tiling if chunk.used]
         return (
-            (r.cached == 0 or r.cached in [chunk.link for chunk in used])
-            and r.in_use == sum(chunk.length for chunk in used if chunk.link != r.cached)
+            all(link in [chunk.link for chunk in used] for link in r.cached)
+            and len(set(r.cached)) == len(r.cached) <= self.places
+            and r.in_use == sum(chunk.length for chunk in used if chunk.link not in r.cached)
             and r.committed == sum(chunk.length for chunk in used)
             and r.committed <= r.peak <= r.high <= 4 * r.words - 4
             and r.high % 8 == 0
@@ -436,7 +454,7 @@ class Heap:
             r.peak,
             r.high,
             r.fresh,
-            name_of(r.cached) if r.cached else "-",
+            ">".join(name_of(link) for link in r.cached) or "-",
             ",".join(f"{name_of(r.prev[k])}/{name_of(r.next[k])}" for k in range(6)),
             ",".join(self.dump_list(k) for k in range(6)),
             self.dump_memory(),
@@ -477,9 +495,9 @@ def frame_of(line):
 class Trace:
     """The trace program, with the harness's options."""
 
-    def __init__(self, words=TRACE_WORDS, fill=None, marks=None, dump=False, heap=Heap):
+    def __init__(self, places, words=TRACE_WORDS, fill=None, marks=None, dump=False, heap=Heap):
         """A trace program before its first line."""
-        self.heap = heap([0] * words)
+        self.heap = heap([0] * words, places)
         self.seed = fill
         self.marks = marks
         self.dump = dump
@@ -529,17 +547,24 @@ class Trace:
 
 def main(arguments):
     """Run the trace program on standard input."""
-    options = {}
+    options = {"places": 4}
     arguments = iter(arguments)
     for argument in arguments:
         if argument == "--dump":
             options["dump"] = True
-        elif argument in ("--words", "--fill", "--marks"):
+        elif argument in ("--places", "--words", "--fill", "--marks"):
             options[argument[2:]] = int(next(arguments))
         else:
-            sys.exit("usage: model.py [--dump] [--words N] [--fill SEED] [--marks STACKLETS] < frames")
+            usage()
+    if options["places"] not in (1, 4):
+        usage()
     for line in Trace(**options).run(sys.stdin.buffer.read()):
         print(line)
+
+
+def usage():
+    """Say how the model is started, and stop."""
+    sys.exit("usage: model.py [--places 1|4] [--dump] [--words N] [--fill SEED] [--marks STACKLETS] < frames")
 
 
 if __name__ == "__main__":

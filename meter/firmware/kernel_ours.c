@@ -88,8 +88,8 @@ int kernel_damage(uint32_t place, uint32_t index, uint32_t number)
     case 5: record.committed = number; return 1;
     case 6: record.peak = number; return 1;
     case 7: record.high = number; return 1;
-    case 8: record.cached = (uint16_t)number; return 1;
-    case 9: record.fresh = (uint16_t)number; return 1;
+    case 8: record.cached[index % 4] = (uint16_t)number; return 1;
+    case 9: record.fresh = number; return 1;
     case 10: lent = number; return number <= WORDS;
     case 11: kernel_reset(); summed = number; return number <= WORDS;
     default: return 0;
@@ -108,7 +108,10 @@ uint32_t kernel_sum(void)
     for (int list = 0; list < 6; list++)
         sum = with(with(sum, record.prev[list]), record.next[list]);
     sum = with(with(with(sum, record.words), record.in_use), record.committed);
-    sum = with(with(with(with(with(sum, record.peak), record.high), record.cached), record.fresh), lent);
+    sum = with(with(sum, record.peak), record.high);
+    for (int place = 0; place < 4; place++)
+        sum = with(sum, record.cached[place]);
+    sum = with(with(sum, record.fresh), lent);
     for (uint32_t w = 0; w < summed; w++)
         sum = with(sum, heap[w]);
     return sum;

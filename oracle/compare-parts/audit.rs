@@ -66,8 +66,8 @@ pub fn tiling(words: &[u32]) -> Option<Vec<Chunk>> {
     (last.length == 0 && last.used).then_some(chunks)
 }
 
-/// Whether record and words are sound.
-pub fn sound(record: &Record, words: &[u32]) -> bool {
+/// Whether record and words are sound, with that many cache places.
+pub fn sound(record: &Record, words: &[u32], places: usize) -> bool {
     let accepted = words.len() % 2 == 1 && (5..=65_529).contains(&words.len());
     if record.words as usize != words.len() || !accepted {
         return false;
@@ -77,7 +77,7 @@ pub fn sound(record: &Record, words: &[u32]) -> bool {
             && no_two_free_touch(&chunks)
             && footers_right(words, &chunks)
             && (0..6).all(|class| list_right(record, words, &chunks, class))
-            && cached_used(record, &chunks)
+            && cached_right(&record.cached_links(), &chunks, places)
             && figures_right(record, words, &chunks)
     })
 }
@@ -144,16 +144,24 @@ fn prev_of(record: &Record, words: &[u32], link: usize) -> usize {
     }
 }
 
-/// Whether the cached chunk, if any, is a used one. Link 0 stands for none.
-fn cached_used(record: &Record, chunks: &[Chunk]) -> bool {
-    let names = |chunk: &Chunk| chunk.used && chunk.link() == record.cached as usize;
-    record.cached == 0 || chunks.iter().any(names)
+/// Whether the cached chunks are used ones, all different, and no more than there are places.
+fn cached_right(cached: &[u16], chunks: &[Chunk], places: usize) -> bool {
+    let used = |link: usize| {
+        chunks
+            .iter()
+            .any(|chunk| chunk.used && chunk.link() == link)
+    };
+    let alike = |at: usize| cached[..at].contains(&cached[at]);
+    cached.len() <= places
+        && cached.iter().all(|link| used(*link as usize))
+        && !(0..cached.len()).any(alike)
 }
 
 /// Whether bytes in use, bytes committed, peak, high water and its flag are right. A chunk is live if used and not cached.
 fn figures_right(record: &Record, words: &[u32], chunks: &[Chunk]) -> bool {
     let used: Vec<&Chunk> = chunks.iter().filter(|chunk| chunk.used).collect();
-    let is_live = |chunk: &&&Chunk| chunk.link() != record.cached as usize;
+    let cached = record.cached_links();
+    let is_live = |chunk: &&&Chunk| !cached.contains(&(chunk.link() as u16));
     let live: usize = used.iter().filter(is_live).map(|chunk| chunk.length).sum();
     let sum: usize = used.iter().map(|chunk| chunk.length).sum();
     let high = record.high as usize;

@@ -19,13 +19,14 @@ impl State {
         let chunks = tiling(&self.words).unwrap_or_default();
         let free: Vec<Chunk> = chunks.iter().copied().filter(|chunk| !chunk.used).collect();
         let used: Vec<Chunk> = chunks.iter().copied().filter(|chunk| chunk.used).collect();
-        match numbers.below(8) {
+        match numbers.below(9) {
             0 => self.change_field(numbers),
             1 => self.change_figure(numbers, &chunks),
             2 if !self.words.is_empty() => self.change_word(numbers),
             3 | 4 if !chunks.is_empty() => self.change_chunk(numbers, &chunks),
             5 | 6 if !free.is_empty() => self.change_lists(numbers, &free),
             7 if !used.is_empty() => self.change_used(numbers, &used),
+            8 if !used.is_empty() => self.change_cache(numbers, &used, &free),
             _ => self.change_length(numbers),
         }
     }
@@ -38,7 +39,7 @@ impl State {
         match numbers.below(10) {
             0 => self.record.prev[class] = link,
             1 => self.record.next[class] = link,
-            2 => self.record.cached = link,
+            2 => self.record.cached[numbers.below(4) as usize] = link,
             3 => self.record.fresh = some_flag(numbers),
             4 => self.record.words = near(numbers, self.record.words, number),
             5 => self.record.in_use = near(numbers, self.record.in_use, number),
@@ -118,7 +119,7 @@ impl State {
         if chunk.used {
             self.words[chunk.end() / 4 - 1] = length;
             self.record.committed = self.record.committed.wrapping_sub(length);
-            if chunk.link() != self.record.cached as usize {
+            if !self.record.cached_links().contains(&(chunk.link() as u16)) {
                 self.record.in_use = self.record.in_use.wrapping_sub(length);
             }
         } else {
@@ -177,14 +178,17 @@ impl State {
         }
     }
 
-    /// A used chunk is cached, with bytes in use as they were or right for it, listed, or written into.
+    /// A used chunk is listed, written into, or takes a cache place, with bytes in use as they were or right for it.
     fn change_used(&mut self, numbers: &mut Numbers, used: &[Chunk]) -> &'static str {
         let chunk = numbers.pick(used);
         match numbers.below(5) {
-            0 => self.record.cached = chunk.link() as u16,
+            0 => self.record.cached[numbers.below(4) as usize] = chunk.link() as u16,
             1 => self.list(chunk, class_of(chunk.length) as u16),
-            2 => self.record.cached = (chunk.link() + numbers.within(1, 3) as usize) as u16,
-            3 => self.cache(chunk, used),
+            2 => {
+                let inside = chunk.link() as u32 + numbers.within(1, 3);
+                self.record.cached[numbers.below(4) as usize] = inside as u16;
+            }
+            3 => self.cache(&[chunk.link() as u16], used),
             _ => {
                 let word = numbers.within(chunk.word as u32 + 1, chunk.end() as u32 / 4 - 1);
                 self.words[word as usize] = misleading(numbers);
@@ -193,11 +197,59 @@ impl State {
         "a used chunk"
     }
 
-    /// A used chunk takes the cache's place, and bytes in use follow.
-    fn cache(&mut self, chunk: Chunk, used: &[Chunk]) {
-        self.record.cached = chunk.link() as u16;
-        let live = used.iter().filter(|other| other.word != chunk.word);
-        self.record.in_use = live.map(|other| other.length as u32).sum();
+    /// The cache places hold these links, and bytes in use are what the other used chunks have.
+    fn cache(&mut self, links: &[u16], used: &[Chunk]) {
+        self.record.cached = [0; 4];
+        self.record.cached[..links.len()].copy_from_slice(links);
+        let live = used
+            .iter()
+            .filter(|chunk| !links.contains(&(chunk.link() as u16)));
+        self.record.in_use = live.map(|chunk| chunk.length as u32).sum();
+    }
+
+    /// The cache holds some used chunks, in any order and with bytes in use right for it; often one of the links is then no cached chunk's:
+    /// two alike, a hole, a sentinel, a free chunk, the guard, what lies past it, or a word inside a payload that looks like a used header.
+    fn change_cache(
+        &mut self,
+        numbers: &mut Numbers,
+        used: &[Chunk],
+        free: &[Chunk],
+    ) -> &'static str {
+        let mut links: Vec<u16> = Vec::new();
+        for _ in 0..numbers.within(1, 4) {
+            let link = numbers.pick(used).link() as u16;
+            if !links.contains(&link) {
+                links.push(link);
+            }
+        }
+        let guard = self.words.len() as u16 + 5;
+        let bad = match numbers.below(9) {
+            0 => links[0],
+            1 => 0,
+            2 => numbers.within(1, 5) as u16,
+            3 if !free.is_empty() => numbers.pick(free).link() as u16,
+            4 => guard,
+            5 => guard.wrapping_add(numbers.within(1, 3) as u16),
+            6 => self.like_a_header(numbers, used),
+            _ => {
+                self.cache(&links, used);
+                return "the cache";
+            }
+        };
+        let place = numbers.below(links.len() as u32 + 1) as usize;
+        links.insert(place, bad);
+        links.truncate(4);
+        self.cache(&links, used);
+        "the cache, with a link that is no cached chunk's"
+    }
+
+    /// The link to a word inside a used chunk's payload, written to look like the header of a used chunk that ends with it.
+    fn like_a_header(&mut self, numbers: &mut Numbers, used: &[Chunk]) -> u16 {
+        let chunk = numbers.pick(used);
+        let end = chunk.end() / 4;
+        let word = numbers.within(chunk.word as u32 + 1, end as u32 - 1) as usize;
+        self.words[word] = 4 * (end - word) as u32 / 8 * 8 + 3;
+        word as u16 + 6
     }
 
     /// More or fewer words are lent, and the record may say so.
@@ -283,12 +335,13 @@ impl State {
 }
 
 /// A flag: off, on, or a damaged one.
-fn some_flag(numbers: &mut Numbers) -> u16 {
-    match numbers.below(4) {
+fn some_flag(numbers: &mut Numbers) -> u32 {
+    match numbers.below(5) {
         0 => 0,
         1 => 1,
-        2 => numbers.within(2, 5) as u16,
-        _ => numbers.next() as u16,
+        2 => numbers.within(2, 5),
+        3 => numbers.below(2) << 16,
+        _ => numbers.next() as u32,
     }
 }
 

@@ -9,13 +9,13 @@ use std::fmt;
 pub struct Record {
     pub prev: [u16; 6],
     pub next: [u16; 6],
+    pub cached: [u16; 4],
     pub words: u32,
     pub in_use: u32,
     pub committed: u32,
     pub peak: u32,
     pub high: u32,
-    pub cached: u16,
-    pub fresh: u16,
+    pub fresh: u32,
 }
 
 /// An answer: number, value, free chunks compared.

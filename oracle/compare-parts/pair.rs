@@ -13,7 +13,7 @@
 
 use crate::damage::State;
 use crate::numbers::Numbers;
-use crate::port::{self, Record, Reply};
+use crate::port::{self, Kind, Record, Reply};
 use oracle::{can_make, Name, Oracle};
 
 /// The largest size that the rules serve.
@@ -228,7 +228,7 @@ impl Pair {
     /// Both answers to making. Lengths that are not accepted, or not those of the slice, get 6.
     fn make(&mut self, lent: u32, words: u32) -> (Reply, Reply) {
         let slice = &mut self.memory[..lent as usize];
-        let port = port::make(&mut self.record, slice, words);
+        let port = port::ONE.door.make(&mut self.record, slice, words);
         if lent != words || !can_make(words) {
             return (refusal(6), port);
         }
@@ -241,7 +241,7 @@ impl Pair {
     /// Both answers to asking. 1, 2 and 5 are the rules'; where the Rust is asked, null is 3.
     fn ask(&mut self, size: u32) -> (Reply, Reply) {
         let slice = &mut self.memory[..self.made as usize];
-        let port = port::hand_out(&mut self.record, slice, size);
+        let port = port::ONE.door.hand_out(&mut self.record, slice, size);
         let rust = match size {
             0 => refusal(1),
             _ if size > LARGEST_SIZE => refusal(2),
@@ -268,7 +268,7 @@ impl Pair {
     /// Both answers to freeing. Before a heap is made 5 is the rules', and 4 where nothing live begins at the offset.
     fn free(&mut self, offset: u32) -> (Reply, Reply) {
         let slice = &mut self.memory[..self.made as usize];
-        let port = port::take_back(&mut self.record, slice, offset);
+        let port = port::ONE.door.take_back(&mut self.record, slice, offset);
         if self.made == 0 {
             return (refusal(5), port);
         }
@@ -338,6 +338,11 @@ impl Pair {
         self.live.len() as u32
     }
 
+    /// The port's configuration: the Rust has one cache place.
+    pub fn kind(&self) -> Kind {
+        port::ONE
+    }
+
     /// The port's record and its words.
     pub fn state(&self) -> State {
         State {
@@ -393,13 +398,15 @@ impl Pair {
             committed: self.oracle.in_use(),
             peak: self.oracle.peak(),
             high: self.oracle.high(),
-            cached: self
-                .oracle
-                .cached()
-                .map_or(0, |offset| (offset / 4 + 6) as u16),
-            fresh: self.oracle.fresh() as u16,
+            fresh: self.oracle.fresh() as _,
             ..Record::default()
         };
+        let cached = self.oracle.cached();
+        let cached: Vec<u16> = cached
+            .map(|offset| (offset / 4 + 6) as u16)
+            .into_iter()
+            .collect();
+        record.set_cached(&cached);
         for class in 0..6 {
             let (prev, next) = self.oracle.sentinel_links(class);
             record.prev[class] =

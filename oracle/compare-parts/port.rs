@@ -16,38 +16,54 @@ mod library {
 
     #[link(name = "door", kind = "static")]
     extern "C" {
-        #[link_name = "lischemur_make_needs_library_of_layout_3"]
+        #[link_name = "lischemur_make_needs_library_of_layout_4"]
         pub fn lischemur_make(record: &mut Record, heap: *mut u32, len: u64, words: u32) -> Reply;
-        #[link_name = "lischemur_hand_out_needs_library_of_layout_3"]
+        #[link_name = "lischemur_hand_out_needs_library_of_layout_4"]
         pub fn lischemur_hand_out(
             record: &mut Record,
             heap: *mut u32,
             len: u64,
             size: u32,
         ) -> Reply;
-        #[link_name = "lischemur_take_back_needs_library_of_layout_3"]
+        #[link_name = "lischemur_take_back_needs_library_of_layout_4"]
         pub fn lischemur_take_back(
             record: &mut Record,
             heap: *mut u32,
             len: u64,
             payload: u32,
         ) -> Reply;
-        #[link_name = "lischemur_audit_needs_library_of_layout_3"]
+        #[link_name = "lischemur_audit_needs_library_of_layout_4"]
         pub fn lischemur_audit(record: Record, heap: *const u32, len: u64) -> u32;
-        #[link_name = "lischemur_mark_needs_library_of_layout_3"]
+        #[link_name = "lischemur_one_hand_out_needs_library_of_layout_4"]
+        pub fn lischemur_one_hand_out(
+            record: &mut Record,
+            heap: *mut u32,
+            len: u64,
+            size: u32,
+        ) -> Reply;
+        #[link_name = "lischemur_one_take_back_needs_library_of_layout_4"]
+        pub fn lischemur_one_take_back(
+            record: &mut Record,
+            heap: *mut u32,
+            len: u64,
+            payload: u32,
+        ) -> Reply;
+        #[link_name = "lischemur_one_audit_needs_library_of_layout_4"]
+        pub fn lischemur_one_audit(record: Record, heap: *const u32, len: u64) -> u32;
+        #[link_name = "lischemur_mark_needs_library_of_layout_4"]
         pub fn lischemur_mark(record: Record, stacklets: u32) -> Marking;
-        #[link_name = "lischemur_in_use_needs_library_of_layout_3"]
+        #[link_name = "lischemur_in_use_needs_library_of_layout_4"]
         pub fn lischemur_in_use(record: Record) -> u32;
-        #[link_name = "lischemur_committed_needs_library_of_layout_3"]
+        #[link_name = "lischemur_committed_needs_library_of_layout_4"]
         pub fn lischemur_committed(record: Record) -> u32;
-        #[link_name = "lischemur_peak_needs_library_of_layout_3"]
+        #[link_name = "lischemur_peak_needs_library_of_layout_4"]
         pub fn lischemur_peak(record: Record) -> u32;
-        #[link_name = "lischemur_high_water_needs_library_of_layout_3"]
+        #[link_name = "lischemur_high_water_needs_library_of_layout_4"]
         pub fn lischemur_high_water(record: Record) -> u32;
     }
 }
 
-/// The library's calls.
+/// The library's calls with four cache places.
 pub const DOOR: Door = Door {
     make: library::lischemur_make,
     hand_out: library::lischemur_hand_out,
@@ -55,25 +71,35 @@ pub const DOOR: Door = Door {
     audit: library::lischemur_audit,
 };
 
-/// Make a heap of the slice, which is said to have so many words.
-pub fn make(record: &mut Record, heap: &mut [u32], words: u32) -> Reply {
-    DOOR.make(record, heap, words)
+/// The library's calls with one, as the Rust has it.
+pub const ONE_DOOR: Door = Door {
+    make: library::lischemur_make,
+    hand_out: library::lischemur_one_hand_out,
+    take_back: library::lischemur_one_take_back,
+    audit: library::lischemur_one_audit,
+};
+
+/// A configuration of the library: a number of cache places, and the calls that have them.
+#[derive(Clone, Copy)]
+pub struct Kind {
+    pub places: usize,
+    pub door: Door,
 }
 
-/// Ask for bytes.
-pub fn hand_out(record: &mut Record, heap: &mut [u32], size: u32) -> Reply {
-    DOOR.hand_out(record, heap, size)
-}
+/// The configuration that is put beside the Rust.
+pub const ONE: Kind = Kind {
+    places: 1,
+    door: ONE_DOOR,
+};
 
-/// Free the payload at an offset.
-pub fn take_back(record: &mut Record, heap: &mut [u32], payload: u32) -> Reply {
-    DOOR.take_back(record, heap, payload)
-}
+/// The configuration that calls without a word of their own have.
+pub const FOUR: Kind = Kind {
+    places: 4,
+    door: DOOR,
+};
 
-/// Whether record and words are sound: 1 or 0.
-pub fn audit(record: &Record, heap: &[u32]) -> u32 {
-    DOOR.audit(record, heap)
-}
+/// Every configuration. Each is put beside the rules without words.
+pub const KINDS: [Kind; 2] = [ONE, FOUR];
 
 /// The mark, or nothing if high water has not just been updated; the flag clears.
 pub fn mark(record: &mut Record, stacklets: u32) -> Option<i64> {

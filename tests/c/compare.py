@@ -3,7 +3,7 @@
     python3 tests/c/compare.py TRACE [HISTORIES]
 
 TRACE is the built trace program. After every request the answer, the record, each word and the map must be equal. Writes how
-many lines were compared; the first difference is shown and ends the run with status 1.
+many lines were compared; the first difference is shown and ends the run with status 1. All is run with one cache place and with four.
 """
 
 import random
@@ -17,7 +17,9 @@ import histories
 import model
 from compare import map_of  # the map of the model's heap: tests/map/compare.py
 
-FIELDS = ("words", "in_use", "committed", "peak", "high", "cached", "fresh")
+FIELDS = ("words", "in_use", "committed", "peak", "high", "fresh")
+STORED = 4  # cache places of the record
+KINDS = {1: ["--one"], 4: []}  # the calls by their cache places, and what tells the trace program to use them
 
 
 def map_shown(heap):
@@ -28,14 +30,14 @@ def map_shown(heap):
 def whole_state(heap):
     """The state as trace.c writes it: the door's links and words are the model's, so nothing needs naming."""
     r = heap.record
-    return "words=%d in_use=%d committed=%d peak=%d high=%d fresh=%d cached=%d sound=%d lent=%d links=%s memory=%s map=%s" % (
+    return "words=%d in_use=%d committed=%d peak=%d high=%d fresh=%d cached=%s sound=%d lent=%d links=%s memory=%s map=%s" % (
         r.words,
         r.in_use,
         r.committed,
         r.peak,
         r.high,
         r.fresh,
-        r.cached,
+        ",".join(map(str, model.in_places(r.cached, STORED))),
         heap.sound(),
         heap.lent,
         "".join("%d/%d," % pair for pair in zip(r.prev, r.next)),
@@ -58,27 +60,27 @@ def compare(trace, what, data, arguments, wanted):
     return len(got)
 
 
-def no_frames():
+def no_frames(places):
     """Lines that are no frames among some that are: the input, and the lines that the model writes for it."""
     data = b"0100000001\n0000000021\n\n010000000\n01000000010\n010000000a\n0300000001\n 100000001\n0100\x00000C\n"
     data += b"X" * 200 + b"\n0100000020\n0000010000\n0100000001\n0100000001"
-    return data, model.Trace(dump=True).run(data)
+    return data, model.Trace(places, dump=True).run(data)
 
 
-def largest():
+def largest(places):
     """A history on the most words that a heap may have, up to its last chunk: the input, and the model's lines."""
     most = model.MOST_WORDS
     asks = [(1, size) for size in (4 * most - 560, 100, 200, 100, 50, 20, 12, 12)]
     requests = [(0, most), *asks, (2, 4), (2, 4 * most - 552), (1, 100), (2, 4), (1, 4 * most - 600)]
     data = b"".join(b"%02X%08X\n" % request for request in requests)
-    return data, model.Trace(words=most, dump=True).run(data)
+    return data, model.Trace(places, words=most, dump=True).run(data)
 
 
-def told_apart(trace, slip):
+def told_apart(trace, places, slip):
     """Whether some history tells a model with a slip from the door: if none does, comparing shows nothing."""
     for seed in range(20):
-        data, arguments, wanted = histories.random_history(seed, heap=slip)
-        if subprocess.run([trace, *arguments], input=data, capture_output=True).stdout.decode().splitlines() != wanted:
+        data, arguments, wanted = histories.random_history(seed, places, heap=slip)
+        if subprocess.run([trace, *KINDS[places], *arguments], input=data, capture_output=True).stdout.decode().splitlines() != wanted:
             return True
     return False
 
@@ -102,6 +104,10 @@ def write(heap, name, index, value):
     elif name in ("prev", "next"):
         links = getattr(heap.record, name)
         old, links[index] = links[index], value
+    elif name == "cached":
+        links = model.in_places(heap.record.cached, STORED)
+        old, links[index] = links[index], value
+        heap.record.cached = model.cached_of(links)
     else:
         place = heap if name == "lent" else heap.record
         old = getattr(place, name)
@@ -120,15 +126,18 @@ def any_damage(rng, heap):
         return name, index, changed(rng, getattr(heap.record, name)[index], 16)
     if draw < 0.75:
         return "lent", 0, rng.randrange(len(heap.memory))
+    if draw < 0.8:
+        index = rng.randrange(STORED)
+        return "cached", index, changed(rng, model.in_places(heap.record.cached, STORED)[index], 16)
     name = rng.choice(FIELDS)
-    return name, 0, changed(rng, getattr(heap.record, name), 16 if name in ("cached", "fresh") else 32)
+    return name, 0, changed(rng, getattr(heap.record, name), 32)
 
 
-def damaged_history(seed, rounds=200):
+def damaged_history(seed, places, rounds=200):
     """A short history on a small heap, then damage, each undone unless the pair was sound: input, options and wanted lines, and how many requests met damage."""
     rng = random.Random(seed)
     words = rng.randrange(9, 100, 2)
-    trace = model.Trace(words=words, dump=True)
+    trace = model.Trace(places, words=words, dump=True)
     data, wanted, live, refused = [b"00%08X\n" % words], list(trace.request(0, words)[1]), [4], 0
     for _ in range(rounds):
         damage = any_damage(rng, trace.heap) if rng.random() < 0.7 else None
@@ -149,30 +158,40 @@ def damaged_history(seed, rounds=200):
     return b"".join(data), ["--words", str(words)], wanted, refused
 
 
-def main(trace, count):
-    """Compare everything and write how many lines were."""
-    model.Heap.dump = whole_state
-    data, wanted = no_frames()
-    lines = compare(trace, "no frames", data, [], wanted)
-    data, wanted = largest()
-    lines += compare(trace, "the largest heap", data, ["--words", str(model.MOST_WORDS)], wanted)
+def compare_kind(trace, places, count):
+    """Compare everything with that many cache places; how many lines were compared."""
+
+    def against(what, data, arguments, wanted):
+        return compare(trace, f"cache places {places}, {what}", data, KINDS[places] + arguments, wanted)
+
+    data, wanted = no_frames(places)
+    lines = against("no frames", data, [], wanted)
+    data, wanted = largest(places)
+    lines += against("the largest heap", data, ["--words", str(model.MOST_WORDS)], wanted)
     for words in (9, 13, 17):
-        data, wanted = histories.every_history(words, (12, 20, 28), 4)
-        lines += compare(trace, "every history on %d words" % words, data, ["--words", str(words)], wanted)
+        data, wanted = histories.every_history(words, (12, 20, 28), 4, places)
+        lines += against("every history on %d words" % words, data, ["--words", str(words)], wanted)
     for seed in range(count):
-        data, arguments, wanted = histories.random_history(seed)
-        lines += compare(trace, "history %d" % seed, data, arguments, wanted)
+        data, arguments, wanted = histories.random_history(seed, places)
+        lines += against("history %d" % seed, data, arguments, wanted)
     refusals = 0
     for seed in range(count):
-        data, arguments, wanted, refused = damaged_history(seed)
-        lines += compare(trace, "damaged history %d" % seed, data, arguments, wanted)
+        data, arguments, wanted, refused = damaged_history(seed, places)
+        lines += against("damaged history %d" % seed, data, arguments, wanted)
         refusals += refused
     if refusals < 50 * count:
         sys.exit("only %d requests met damage" % refusals)
-    for slip in histories.SLIPS:
-        if not told_apart(trace, slip):
-            sys.exit("no history tells %s from the door" % slip.__name__)
-    print(lines + len(histories.SLIPS))
+    slips = histories.SLIPS if places == 1 else histories.SLIPS + histories.SLIPS_WITH_PLACES
+    for slip in slips:
+        if not told_apart(trace, places, slip):
+            sys.exit("no history tells %s from the door with %d cache places" % (slip.__name__, places))
+    return lines + len(slips)
+
+
+def main(trace, count):
+    """Compare everything and write how many lines were."""
+    model.Heap.dump = whole_state
+    print(sum(compare_kind(trace, places, count) for places in KINDS))
 
 
 if __name__ == "__main__":

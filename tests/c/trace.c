@@ -1,10 +1,11 @@
 /*
  * The trace frames of document 01, answered through the door, to be compared with oracle/model.py line by line.
  *
- *     trace [--words N] [--fill SEED] [--marks STACKLETS] < lines
+ *     trace [--one] [--words N] [--fill SEED] [--marks STACKLETS] < lines
  *
  * A frame gets its answer line and then the whole state: the record and all words as they are, no link named, and the map,
- * whose lines end in commas. The options mean what docs/ORACLE.md says of the harness's. A line that begins with ! does
+ * whose lines end in commas. With --one the calls are those with one cache place; the other options
+ * mean what docs/ORACLE.md says of the harness's. A line that begins with ! does
  * damage: `!NAME INDEX VALUE` writes a word or a field, as `!memory 3 16`, `!prev 0 7`, `!peak 0 80`, or lends another count
  * of words, `!lent 0 35`; it gets no line.
  */
@@ -29,7 +30,7 @@ static const uint32_t outside = 0xA5A5A5A5;
 
 /* The options: a seed for misleading numbers, and whether to read the mark. */
 static uint32_t seed, stacklets;
-static bool filling, marking;
+static bool filling, marking, one;
 
 /* What a loader or a task has yet to write: all words, or the payload handed out last. */
 static uint32_t unwritten, unwritten_end;
@@ -56,7 +57,7 @@ static lischemur_reply map_in(uint32_t bytes)
 {
     size_t whole = LISCHEMUR_MAP_ROOM(words) + 1;
     memset(room, ' ', whole);
-    lischemur_reply r = lischemur_write_map(record, heap, lent, room, bytes);
+    lischemur_reply r = (one ? lischemur_one_write_map : lischemur_write_map)(record, heap, lent, room, bytes);
     for (size_t k = LISCHEMUR_MAP_LINE * r.value; k < whole; k++)
         if (room[k] != ' ')
             exit(4);
@@ -86,8 +87,8 @@ static void show(void)
         exit(3);
     printf("words=%" PRIu32 " in_use=%" PRIu32 " committed=%" PRIu32 " peak=%" PRIu32 " high=%" PRIu32, record.words,
         lischemur_in_use(record), lischemur_committed(record), lischemur_peak(record), lischemur_high_water(record));
-    printf(" fresh=%u cached=%u sound=%" PRIu32 " lent=%" PRIu32 " links=", record.fresh,
-        record.cached, lischemur_audit(record, heap, lent), lent);
+    printf(" fresh=%" PRIu32 " cached=%u,%u,%u,%u sound=%" PRIu32 " lent=%" PRIu32 " links=", record.fresh, record.cached[0], record.cached[1],
+        record.cached[2], record.cached[3], (one ? lischemur_one_audit : lischemur_audit)(record, heap, lent), lent);
     for (int k = 0; k < 6; k++)
         printf("%u/%u,", record.prev[k], record.next[k]);
     printf(" memory=");
@@ -121,9 +122,9 @@ static void serve(uint32_t kind, uint32_t number)
         r = lischemur_make(&record, heap, number <= words ? number : words, number);
         lent = r.number == LISCHEMUR_DONE ? number : lent;
     } else if (kind == 1) {
-        r = lischemur_hand_out(&record, heap, lent, number);
+        r = (one ? lischemur_one_hand_out : lischemur_hand_out)(&record, heap, lent, number);
     } else {
-        r = lischemur_take_back(&record, heap, lent, number);
+        r = (one ? lischemur_one_take_back : lischemur_take_back)(&record, heap, lent, number);
     }
     say(r);
     if (kind == 1 && r.number == LISCHEMUR_DONE)
@@ -147,8 +148,8 @@ static void damage(const char *line)
     if (strcmp(name, "committed") == 0) record.committed = value;
     if (strcmp(name, "peak") == 0) record.peak = value;
     if (strcmp(name, "high") == 0) record.high = value;
-    if (strcmp(name, "cached") == 0) record.cached = (uint16_t)value;
-    if (strcmp(name, "fresh") == 0) record.fresh = (uint16_t)value;
+    if (strcmp(name, "cached") == 0) record.cached[index % 4] = (uint16_t)value;
+    if (strcmp(name, "fresh") == 0) record.fresh = value;
 }
 
 /* Answers a line; its line feed was there, or it was not. */
@@ -176,12 +177,14 @@ static void options(int count, char **values)
             seed = (uint32_t)strtoul(values[++i], NULL, 10), filling = true;
         } else if (strcmp(values[i], "--marks") == 0 && more) {
             stacklets = (uint32_t)strtoul(values[++i], NULL, 10), marking = true;
+        } else if (strcmp(values[i], "--one") == 0) {
+            one = true;
         } else if (strcmp(values[i], "--dump") != 0) {
             words = MOST;
         }
     }
     if (words >= MOST) {
-        fprintf(stderr, "usage: trace [--words N] [--fill SEED] [--marks STACKLETS] < lines\n");
+        fprintf(stderr, "usage: trace [--one] [--words N] [--fill SEED] [--marks STACKLETS] < lines\n");
         exit(2);
     }
 }

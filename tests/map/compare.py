@@ -23,6 +23,7 @@ sys.path.insert(0, str(ROOT / "oracle"))
 import histories  # noqa: E402
 import model  # noqa: E402
 
+PLACES = 4  # cache places of the programs
 SEED = 20240201
 NO_MAP = b"050000000000000000\n"
 LINE = re.compile(rb"(1[012])([0-9A-F]{8})([0-9A-F]{8})\n")
@@ -62,7 +63,7 @@ def map_of(heap):
         return NO_MAP
     lines = []
     for chunk in heap.chunks():
-        cached = chunk.link == heap.record.cached
+        cached = chunk.link in heap.record.cached
         lines.append(b"%02X%08X%08X\n" % (0x12 if cached else 0x11 if chunk.used else 0x10, 4 * chunk.w, chunk.length))
     return b"".join(lines)
 
@@ -84,7 +85,7 @@ def first_bad(data):
     bad += [k + 1 for k in range(good) if at[k] != ends[k]]
     bad += [k + 1 for k in range(good) if lengths[k] < 16 or lengths[k] % 8 or not model.accepted(ends[k + 1] // 4 + 1)]
     bad += [k + 1 for k in range(1, good) if kinds[k - 1] == kinds[k] == b"10"]
-    bad += [k + 1 for k in range(good) if kinds[k] == b"12"][1:]
+    bad += [k + 1 for k in range(good) if kinds[k] == b"12"][PLACES:]
     return min(bad, default=0)
 
 
@@ -112,7 +113,7 @@ def compare_history(frames, rng, cuts):
     """`chart` on a history, cut at some places: its maps are the model's. Gives them."""
     lines = lines_of(frames)
     places = set(rng.sample(range(len(lines) + 1), min(cuts, len(lines)))) | {len(lines)}
-    trace, maps = model.Trace(), []
+    trace, maps = model.Trace(PLACES), []
     for place in range(len(lines) + 1):
         if place in places:
             wanted, said = map_of(trace.heap), ask("chart", b"".join(lines[:place]))
@@ -130,19 +131,19 @@ def compare_history(frames, rng, cuts):
 def check_served(heap, data):
     """The largest request that the map's sheet says is served, and the smaller ones that it says are refused, are those of the model's heap."""
     sizes = range(1, 4 * heap.record.words + 16)
-    serves = {s: heap.cache_serves(s) or heap.search(s)[0] is not None for s in {model.rounded(size) for size in sizes}}
+    serves = {s: heap.oldest_serving(s) is not None or heap.search(s)[0] is not None for s in {model.rounded(size) for size in sizes}}
     wanted = [size for size in sizes if serves[model.rounded(size)]]
     most, refused = heapmap.served(heapmap.read(data)[0])
-    said = [size for size in range(1, most + 1) if refused is None or not refused[0] <= size <= refused[1]]
+    said = [size for size in range(1, most + 1) if not any(first <= size <= last for first, last in refused)]
     if said != wanted:
         fail("the largest request that is served, and what is refused below it", most, refused, max(wanted, default=0), data)
-    return refused is not None
+    return len(refused)
 
 
 def served_history(seed):
     """A heap after a random history of few and often large chunks: the largest free chunk is of any class, the cached one often longer."""
     rng = random.Random(seed)
-    heap = model.Heap([0] * 601)
+    heap = model.Heap([0] * 601, PLACES)
     heap.make(rng.choice((5, 7, 9, 17, 33, 65, 127, 129, 257, 401, 601)))
     for _ in range(rng.randrange(40)):
         places = [chunk.payload for chunk in heap.chunks() if chunk.used]
@@ -158,17 +159,22 @@ HEAPS = 1_000  # random heaps of which every request is asked
 
 def check_requests():
     """What is served: on random heaps by the model, for every size; on heaps just made by the proved program. Gives how many have a gap."""
-    gaps = 0
+    found = []
     for seed in range(HEAPS):
         heap = served_history(SEED + seed)
-        gaps += check_served(heap, map_of(heap))
-    if not gaps:
-        fail("no heap refuses a smaller request than it serves, so that is not tested")
+        found.append(check_served(heap, map_of(heap)))
+    gaps = sum(count > 0 for count in found)
+    heap = model.Heap([0] * 601, PLACES)
+    heap.make(601)
+    for payload in [heap.hand_out(size).value for size in (1400, 800)]:
+        heap.take_back(payload)
+    if not gaps or check_served(heap, map_of(heap)) != 2:
+        fail("no heap refuses a smaller request than it serves, or not in two stretches, so that is not tested")
     for words, most in ((127, 244), (129, 508), (9, 20), (7, 0), (33, 116)):
         whole = b"10%08X%08X\n" % (0, 4 * words - 4)
         said = ask("trace", b"00%08X\n01%08X\n" % (words, most + 1)) + (ask("trace", b"00%08X\n01%08X\n" % (words, most)) if most else b"")
         numbers = [line[:2] for line in said.splitlines()]
-        if heapmap.served(heapmap.read(whole)[0]) != (most, None) or numbers != [b"00", b"03", b"00", b"00"][: len(numbers)]:
+        if heapmap.served(heapmap.read(whole)[0]) != (most, []) or numbers != [b"00", b"03", b"00", b"00"][: len(numbers)]:
             fail("the largest request on a heap of %d words just made" % words, most, said)
     return gaps
 
@@ -178,11 +184,15 @@ def check_words():
     for data, words in (
         (b"1000000000000001F8\n", "largest request that is served: 244 bytes"),
         (b"100000000000000018\n", "largest request that is served: none"),
-        (b"120000000000000018\n", "largest request that is served: 20 bytes (the cached chunk)"),
-        (b"120000000000000210\n", "largest request that is served: 524 bytes (the cached chunk)"),
-        (b"120000000000000218\n", "largest request that is served: 532 bytes (the cached chunk); 1 to 12 are refused"),
-        (b"1000000000000001F8\n12000001F800000300\n", "largest request that is served: 764 bytes (the cached chunk)"),
-        (b"1000000000000001F8\n12000001F800000400\n", "largest request that is served: 1,020 bytes (the cached chunk); 245 to 500 are refused"),
+        (b"120000000000000018\n", "largest request that is served: 20 bytes (a cached chunk)"),
+        (b"120000000000000210\n", "largest request that is served: 524 bytes (a cached chunk)"),
+        (b"120000000000000218\n", "largest request that is served: 532 bytes (a cached chunk); 1 to 12 are refused"),
+        (b"1000000000000001F8\n12000001F800000300\n", "largest request that is served: 764 bytes (a cached chunk)"),
+        (b"1000000000000001F8\n12000001F800000400\n", "largest request that is served: 1,020 bytes (a cached chunk); 245 to 500 are refused"),
+        (
+            b"1000000000000001F8\n12000001F800000400\n12000005F800000800\n",
+            "largest request that is served: 2,044 bytes (a cached chunk); 245 to 500 and 1,021 to 1,524 are refused",
+        ),
     ):
         said = heapmap.table(heapmap.read(data)[0])[-1]
         if said != words:
@@ -282,7 +292,7 @@ def traces(rng):
     yield (ROOT / "crates/trace/stdin").read_bytes(), 60
     yield b"", 1
     for seed in range(24):
-        yield histories.random_history(SEED + seed)[0], 12
+        yield histories.random_history(SEED + seed, PLACES)[0], 12
 
 
 def most_chunks():
@@ -386,7 +396,7 @@ def check_whys():
         (b"110000000000000014\n", 1, "length not legal: 20 bytes"),
         (b"11000000000003FFE8\n", 1, "too long: it ends at 262,120"),
         (one + b"100000001000000010\n", 2, "free after free"),
-        (b"120000000000000010\n120000001000000010\n", 2, "second cached"),
+        (b"".join(b"12%08X00000010\n" % (16 * k) for k in range(5)), 5, "fifth cached: at most four"),
     ):
         fault = heapmap.read(data)[1]
         if fault is None or fault.line != line or not fault.why.startswith(why):

@@ -11,20 +11,20 @@ fn layout(checks: &mut Checks) {
     checks.equal(
         format_args!("size and alignment of the record"),
         sizes,
-        (48, 4),
+        (56, 4),
     );
     let offsets = [
         offset_of!(Record, prev),
         offset_of!(Record, next),
+        offset_of!(Record, cached),
         offset_of!(Record, words),
         offset_of!(Record, in_use),
         offset_of!(Record, committed),
         offset_of!(Record, peak),
         offset_of!(Record, high),
-        offset_of!(Record, cached),
         offset_of!(Record, fresh),
     ];
-    let wanted = [0, 12, 24, 28, 32, 36, 40, 44, 46];
+    let wanted = [0, 12, 24, 32, 36, 40, 44, 48, 52];
     checks.equal(format_args!("offsets of its fields"), offsets, wanted);
 
     let record = Record {
@@ -35,7 +35,7 @@ fn layout(checks: &mut Checks) {
         committed: 0x5152_5354,
         peak: 0x2122_2324,
         high: 0x3132_3334,
-        cached: 0x4142,
+        cached: [0x4142, 0x4344, 0x4546, 0x4748],
         fresh: 1,
     };
     let mut heap = Heap::over(record, &mut []);
@@ -44,10 +44,7 @@ fn layout(checks: &mut Checks) {
     checks.equal(format_args!("readers"), readers, wanted);
     let mark = heap.mark(0);
     checks.equal(format_args!("mark"), mark, Some(0x3132_3334));
-    let marked = Record {
-        fresh: 0,
-        ..record
-    };
+    let marked = Record { fresh: 0, ..record };
     checks.equal(
         format_args!("record after the mark"),
         *heap.record(),
@@ -75,7 +72,7 @@ fn layout(checks: &mut Checks) {
         committed: 24,
         peak: 24,
         high: 24,
-        cached: 6,
+        cached: [6, 0, 0, 0],
         fresh: 1,
     };
     checks.equal(
@@ -177,7 +174,7 @@ fn records(checks: &mut Checks) {
         checks.equal(what, heap.mark(stacklets), Some(mark));
         checks.equal(what, heap.mark(stacklets), None);
         // the mark never refuses: a damaged flag is on
-        for fresh in [2, 255, 256, 65535] {
+        for fresh in [2, 255, 256, 65_535, 65_536, u32::MAX] {
             let damaged = Record {
                 high,
                 fresh,

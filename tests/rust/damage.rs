@@ -3,7 +3,7 @@
 
 use crate::checks::{set_word, state, word, Checks, Numbers};
 use crate::sound::sound;
-use lischemur::{map_room, Heap, Memory, Offset, Record, Refusal, MOST_SIZE};
+use lischemur::{map_room, Heap, Kind, Memory, Offset, Record, Refusal, MOST_SIZE};
 
 /// How many heaps are damaged at random.
 const ROUNDS: u64 = 40_000;
@@ -31,11 +31,13 @@ fn damaged(mut record: Record, numbers: &mut Numbers) -> Record {
             return record;
         }
         7 => {
-            record.cached = link;
+            record.cached[numbers.below(4) as usize] = link;
             return record;
         }
         _ => {
-            record.fresh = record.fresh.wrapping_add(1 + numbers.below(4) as u16);
+            record.fresh = record
+                .fresh
+                .wrapping_add(numbers.one_of(&[1, 2, 3, 4, 65_536]));
             return record;
         }
     };
@@ -50,7 +52,7 @@ fn damaged(mut record: Record, numbers: &mut Numbers) -> Record {
 /// Every call on a heap, sound or not; the heap is given back as it was.
 fn judged(checks: &mut Checks, heap: &mut Heap, live: &[Offset], numbers: &mut Numbers) -> bool {
     let before = state(heap, WORDS);
-    let is_sound = sound(&before.0, &before.1);
+    let is_sound = sound(&before.0, &before.1, heap.kind().places());
     checks.equal(format_args!("audit of {before:?}"), heap.audit(), is_sound);
     let mut unchanged = |what, heap: &Heap| {
         checks.equal(
@@ -99,7 +101,8 @@ pub fn run(checks: &mut Checks) -> u32 {
         checks.begin(format!("damage {seed}"));
         let numbers = &mut Numbers::new(seed);
         let mut memory = Memory::<{ WORDS as usize }>::new();
-        let mut heap = Heap::make(memory.words()).expect("an accepted length");
+        let kind = numbers.one_of(&[Kind::One, Kind::Four]);
+        let mut heap = Heap::make_as(kind, memory.words()).expect("an accepted length");
         let mut live = Vec::new();
         for _ in 0..numbers.below(20) {
             if numbers.below(3) > 0 {
@@ -112,7 +115,7 @@ pub fn run(checks: &mut Checks) -> u32 {
         checks.holds(format_args!("sound before the damage"), heap.audit());
         if numbers.below(2) == 0 {
             let (record, words) = heap.into_parts();
-            heap = Heap::over(damaged(record, numbers), words);
+            heap = Heap::over_as(kind, damaged(record, numbers), words);
         } else {
             let index = numbers.below(WORDS);
             let old = word(&heap, index);

@@ -3,7 +3,7 @@
 
 use crate::checks::{figures, set_word, state, word, Checks};
 use lischemur::{
-    accepted, map_room, served, words_for, Heap, Memory, Offset, Record, Refusal, MAP_LINE,
+    accepted, map_room, served, words_for, Heap, Kind, Memory, Offset, Record, Refusal, MAP_LINE,
     MOST_SIZE, MOST_WORDS,
 };
 use std::ptr::NonNull;
@@ -40,11 +40,13 @@ fn answer_line(heap: &mut Heap, frame: &str) -> String {
 
 /// The rules' whole run, line by line.
 fn whole_run(checks: &mut Checks) {
-    let mut memory = Memory::<33>::new();
-    let mut heap = Heap::over(Record::EMPTY, memory.words());
-    for (frame, line) in WHOLE_RUN {
-        let got = answer_line(&mut heap, frame);
-        checks.equal(format_args!("frame {frame}"), got.as_str(), line);
+    for kind in [Kind::One, Kind::Four] {
+        let mut memory = Memory::<33>::new();
+        let mut heap = Heap::over_as(kind, Record::EMPTY, memory.words());
+        for (frame, line) in WHOLE_RUN {
+            let got = answer_line(&mut heap, frame);
+            checks.equal(format_args!("{kind:?}, frame {frame}"), got.as_str(), line);
+        }
     }
 }
 
@@ -158,9 +160,9 @@ fn entries(checks: &mut Checks) {
         checks.equal(format_args!("20 after {size}"), next, Ok(second));
     }
 
-    // 33 words: a merge on the left, and the counters
+    // 33 words with one cache place: a merge on the left, and the counters
     let mut lent = vec![0; 33];
-    let mut heap = Heap::make(&mut lent).expect("an accepted length");
+    let mut heap = Heap::make_as(Kind::One, &mut lent).expect("an accepted length");
     for at in [4, 20, 36] {
         checks.equal(
             format_args!("asked for 12"),
@@ -215,7 +217,7 @@ const FIGURES: [(&str, (u32, u32, u32, u32)); 13] = [
 /// The figures after each kind of call.
 fn both_figures(checks: &mut Checks) {
     let mut memory = Memory::<33>::new();
-    let mut heap = Heap::over(Record::EMPTY, memory.words());
+    let mut heap = Heap::over_as(Kind::One, Record::EMPTY, memory.words());
     for (frame, wanted) in FIGURES {
         answer_line(&mut heap, frame);
         checks.equal(format_args!("after {frame}"), figures(&heap), wanted);
@@ -333,7 +335,7 @@ const MAPS: [(&str, &str); 7] = [
 /// Maps in room of every length, which keeps what no line takes.
 fn maps(checks: &mut Checks) {
     let mut memory = Memory::<33>::new();
-    let mut heap = Heap::over(Record::EMPTY, memory.words());
+    let mut heap = Heap::over_as(Kind::One, Record::EMPTY, memory.words());
     for (frame, lines) in MAPS {
         answer_line(&mut heap, frame);
         let before = state(&heap, 33);
@@ -365,9 +367,52 @@ fn maps(checks: &mut Checks) {
     checks.equal(format_args!("lines of the longest map"), lines, Ok(250));
 }
 
+/// Four cache places: what is freed is handed out again oldest first, and a fifth free releases the oldest.
+fn four_places(checks: &mut Checks) {
+    let mut memory = Memory::<25>::new();
+    let mut heap = Heap::make(memory.words()).expect("an accepted length");
+    checks.equal(format_args!("kind"), heap.kind(), Kind::Four);
+    for at in [4, 20, 36, 52, 68] {
+        let got = heap.hand_out(12);
+        checks.equal(format_args!("handout"), got, Ok(Offset(at)));
+    }
+    for at in [4, 20, 36, 52, 68] {
+        let freed = heap.take_back(Offset(at));
+        checks.equal(format_args!("free of {at}"), freed, Ok(()));
+    }
+    let cached = heap.record().cached;
+    checks.equal(format_args!("cached"), cached, [10, 14, 18, 22]);
+    checks.equal(format_args!("figures"), figures(&heap), (0, 64, 80, 80));
+    let mut room = [0; map_room(25)];
+    let map = heap.write_map(&mut room).map(<[u8]>::to_vec);
+    let wanted: &[u8] = b"100000000000000010\n120000001000000010\n120000002000000010\n\
+        120000003000000010\n120000004000000010\n100000005000000010\n";
+    checks.equal(format_args!("map"), map, Ok(wanted.into()));
+
+    // to calls with one place it is damaged, and nothing changes
+    let (record, words) = heap.into_parts();
+    let mut one = Heap::over_as(Kind::One, record, words);
+    checks.holds(format_args!("four cached, one place"), !one.audit());
+    let refused = (one.hand_out(12), one.take_back(Offset(4)));
+    let wanted = (Err(Refusal::Damaged), Err(Refusal::Damaged));
+    checks.equal(format_args!("four cached, one place"), refused, wanted);
+    let map = one.write_map(&mut room).map(<[u8]>::len);
+    checks.equal(format_args!("its map"), map, Err(Refusal::Damaged));
+    checks.equal(format_args!("its record"), *one.record(), record);
+
+    let (record, words) = one.into_parts();
+    let mut heap = Heap::over(record, words);
+    for at in [20, 36, 52, 68] {
+        let again = heap.hand_out(12);
+        checks.equal(format_args!("handed out again"), again, Ok(Offset(at)));
+    }
+    let fifth = heap.hand_out(12);
+    checks.equal(format_args!("a fifth"), fifth, Err(Refusal::NoFit));
+}
+
 /// Run all.
 pub fn run(checks: &mut Checks) {
-    let parts: [(&str, fn(&mut Checks)); 8] = [
+    let parts: [(&str, fn(&mut Checks)); 9] = [
         ("whole run", whole_run),
         ("dimensions", dimensions),
         ("incident", incident),
@@ -376,6 +421,7 @@ pub fn run(checks: &mut Checks) {
         ("refused frees", frees),
         ("pointers", pointers),
         ("maps", maps),
+        ("four cache places", four_places),
     ];
     for (name, part) in parts {
         checks.begin(name.into());

@@ -1,4 +1,4 @@
-//! Random histories, side by side with Hopter's heap.rs in the same process.
+//! Random histories, side by side with Hopter's heap.rs in the same process: with one cache place, as it has.
 //!
 //! After each request answer, offset, compared count, counters, cached chunk, the sentinels' links and
 //! every tag of the tiling are equal, links by the chunk or sentinel that they name, and the map has a line
@@ -8,7 +8,7 @@
 //! empty, which the Rust's need not be, write all over them, and find them as they left them.
 
 use crate::checks::{set_word, word, Checks, Numbers};
-use lischemur::{map_room, Heap, Memory, Offset, Refusal, MOST_SIZE};
+use lischemur::{map_room, Heap, Kind, Memory, Offset, Refusal, MOST_SIZE};
 use oracle::{Name, Oracle, MOST_WORDS};
 use std::collections::BTreeMap;
 
@@ -44,8 +44,14 @@ impl Pair<'_> {
         checks.equal(format_args!("committed"), committed.0, committed.1);
         checks.equal(format_args!("peak"), heap.peak(), oracle.peak());
         checks.equal(format_args!("high water"), heap.high_water(), oracle.high());
-        checks.equal(format_args!("its flag"), record.fresh, oracle.fresh() as u16);
-        let cached = (record.cached > 0).then(|| 4 * (record.cached as u32 - 6));
+        checks.equal(
+            format_args!("its flag"),
+            record.fresh,
+            oracle.fresh() as u32,
+        );
+        let [first, rest @ ..] = record.cached;
+        let cached = (first > 0).then(|| 4 * (first as u32 - 6));
+        checks.equal(format_args!("other cache places"), rest, [0; 3]);
         checks.equal(format_args!("cached chunk"), cached, oracle.cached());
         for class in 0..6 {
             let links = (name_of(record.prev[class]), name_of(record.next[class]));
@@ -204,7 +210,7 @@ fn history(checks: &mut Checks, oracle: &mut Oracle, seed: u64, words: u32, requ
     let mut memory = Box::new(Memory::<{ MOST_WORDS as usize }>::new());
     let lent = &mut memory.words()[..words as usize];
     let mut pair = Pair {
-        heap: Heap::over(Default::default(), lent),
+        heap: Heap::over_as(Kind::One, Default::default(), lent),
         oracle,
         live: BTreeMap::new(),
         numbers: Numbers::new(seed + 1),

@@ -76,7 +76,7 @@ fn listed(record: &Record, words: &[u32], class: usize, mut free: Vec<usize>) ->
 }
 
 /// Whether a record and words are sound.
-pub fn sound(record: &Record, words: &[u32]) -> bool {
+pub fn sound(record: &Record, words: &[u32], places: usize) -> bool {
     if record.words as usize != words.len() || !accepted(words.len()) {
         return false;
     }
@@ -91,14 +91,18 @@ pub fn sound(record: &Record, words: &[u32]) -> bool {
             return false;
         }
     }
-    let mut used = chunks.iter().filter(|chunk| chunk.used);
+    let used = chunks.iter().filter(|chunk| chunk.used);
     let committed: usize = used.clone().map(|chunk| 4 * chunk.len).sum();
-    let cached = used
-        .clone()
-        .find(|chunk| chunk.at + 6 == record.cached as usize);
-    let in_use = committed - cached.map_or(0, |chunk| 4 * chunk.len);
+    // the cached chunks: the links up to the last that is not 0
+    let last = record.cached.iter().rposition(|link| *link != 0);
+    let cached = &record.cached[..last.map_or(0, |at| at + 1)];
+    let is_cached = |chunk: &&Chunk| cached.contains(&(chunk.at as u16 + 6));
+    let found = used.clone().filter(is_cached);
+    let in_use = committed - found.clone().map(|chunk| 4 * chunk.len).sum::<usize>();
     let end = used.clone().map(|chunk| 4 * (chunk.at + chunk.len)).max();
-    (record.cached == 0 || used.any(|chunk| chunk.at + 6 == record.cached as usize))
+    // each of them is a used chunk, and no two are one
+    found.count() == cached.len()
+        && cached.len() <= places
         && record.in_use as usize == in_use
         && record.committed as usize == committed
         && record.committed <= record.peak

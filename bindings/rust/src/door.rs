@@ -8,13 +8,13 @@ use core::mem::{align_of, offset_of, size_of};
 
 /// The number of the layout that record and replies have. The archive's names carry it, so that an
 /// archive of another layout does not link.
-pub const LAYOUT: u32 = 3;
+pub const LAYOUT: u32 = 4;
 
 /// The archive's name of a function: it ends in the layout's number and, for a microcontroller, in the
 /// processor's architecture, which build.rs knows.
 macro_rules! named {
     ($name:literal) => {
-        concat!($name, "_needs_library_of_layout_3", env!("LISCHEMUR_PART"))
+        concat!($name, "_needs_library_of_layout_4", env!("LISCHEMUR_PART"))
     };
 }
 
@@ -28,20 +28,20 @@ pub struct Record {
     pub prev: [u16; 6],
     /// The next link of each list's sentinel: its first chunk, or the sentinel itself.
     pub next: [u16; 6],
+    /// The cached chunks' links, oldest first; 0 for an unused place, and those come last.
+    pub cached: [u16; 4],
     /// How many words the heap has; 0 before one is made.
     pub words: u32,
     /// What tasks hold: the sum of live lengths.
     pub in_use: u32,
-    /// That and the cached chunk: the sum of used lengths.
+    /// That and the cached chunks: the sum of used lengths.
     pub committed: u32,
     /// The largest that `committed` has been.
     pub peak: u32,
     /// The largest end, in bytes, of a chunk that was handed out.
     pub high: u32,
-    /// The cached chunk's link; 0 if there is none.
-    pub cached: u16,
     /// 1 if high water has risen since the mark was last read, else 0; any other value is damaged.
-    pub fresh: u16,
+    pub fresh: u32,
 }
 
 impl Record {
@@ -49,12 +49,12 @@ impl Record {
     pub const EMPTY: Record = Record {
         prev: [0; 6],
         next: [0; 6],
+        cached: [0; 4],
         words: 0,
         in_use: 0,
         committed: 0,
         peak: 0,
         high: 0,
-        cached: 0,
         fresh: 0,
     };
 }
@@ -87,23 +87,23 @@ pub(crate) struct Marking {
     pub(crate) rec: Record,
 }
 
-const _: () = assert!(size_of::<Record>() == 48 && align_of::<Record>() == 4);
+const _: () = assert!(size_of::<Record>() == 56 && align_of::<Record>() == 4);
 const _: () = assert!(offset_of!(Record, prev) == 0);
 const _: () = assert!(offset_of!(Record, next) == 12);
-const _: () = assert!(offset_of!(Record, words) == 24);
-const _: () = assert!(offset_of!(Record, in_use) == 28);
-const _: () = assert!(offset_of!(Record, committed) == 32);
-const _: () = assert!(offset_of!(Record, peak) == 36);
-const _: () = assert!(offset_of!(Record, high) == 40);
-const _: () = assert!(offset_of!(Record, cached) == 44);
-const _: () = assert!(offset_of!(Record, fresh) == 46);
+const _: () = assert!(offset_of!(Record, cached) == 24);
+const _: () = assert!(offset_of!(Record, words) == 32);
+const _: () = assert!(offset_of!(Record, in_use) == 36);
+const _: () = assert!(offset_of!(Record, committed) == 40);
+const _: () = assert!(offset_of!(Record, peak) == 44);
+const _: () = assert!(offset_of!(Record, high) == 48);
+const _: () = assert!(offset_of!(Record, fresh) == 52);
 
 const _: () = assert!(size_of::<Reply>() == 12 && align_of::<Reply>() == 4);
 const _: () = assert!(offset_of!(Reply, number) == 0);
 const _: () = assert!(offset_of!(Reply, value) == 4);
 const _: () = assert!(offset_of!(Reply, compared) == 8);
 
-const _: () = assert!(size_of::<Marking>() == 64);
+const _: () = assert!(size_of::<Marking>() == 72);
 const _: () = assert!(offset_of!(Marking, mark) == 0);
 const _: () = assert!(offset_of!(Marking, changed) == 8);
 const _: () = assert!(offset_of!(Marking, rec) == 12);
@@ -147,7 +147,7 @@ extern "C" {
     /// What tasks hold.
     #[link_name = named!("lischemur_in_use")]
     pub(crate) fn lischemur_in_use(rec: Record) -> u32;
-    /// That and the cached chunk.
+    /// That and the cached chunks.
     #[link_name = named!("lischemur_committed")]
     pub(crate) fn lischemur_committed(rec: Record) -> u32;
     /// The most bytes that were committed.
@@ -156,4 +156,32 @@ extern "C" {
     /// The largest end of a chunk that was handed out.
     #[link_name = named!("lischemur_high_water")]
     pub(crate) fn lischemur_high_water(rec: Record) -> u32;
+    /// With one cache place, hand out a payload of at least `size` bytes, all of it 0.
+    #[link_name = named!("lischemur_one_hand_out")]
+    pub(crate) fn lischemur_one_hand_out(
+        rec: *mut Record,
+        heap: *mut u32,
+        len: u64,
+        size: u32,
+    ) -> Reply;
+    /// With one cache place, take back the payload that begins at this offset.
+    #[link_name = named!("lischemur_one_take_back")]
+    pub(crate) fn lischemur_one_take_back(
+        rec: *mut Record,
+        heap: *mut u32,
+        len: u64,
+        payload: u32,
+    ) -> Reply;
+    /// Whether the record and these words are sound with one cache place: 1 or 0.
+    #[link_name = named!("lischemur_one_audit")]
+    pub(crate) fn lischemur_one_audit(rec: Record, heap: *const u32, len: u64) -> u32;
+    /// With one cache place, write the heap's map at the start of the room, a line for each chunk.
+    #[link_name = named!("lischemur_one_write_map")]
+    pub(crate) fn lischemur_one_write_map(
+        rec: Record,
+        heap: *const u32,
+        len: u64,
+        room: *mut u8,
+        room_len: u64,
+    ) -> Reply;
 }

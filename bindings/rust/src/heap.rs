@@ -25,6 +25,30 @@ pub const fn map_room(words: usize) -> usize {
     words.saturating_sub(1) / 4 * MAP_LINE
 }
 
+/// How many chunks that were taken back a heap caches, for the next handouts that they fit.
+///
+/// A record does not say of which kind it is: to a heap of kind `One` a record with two cached chunks is
+/// damaged.
+#[derive(Clone, Copy, Debug, Default, PartialEq, Eq, Hash)]
+pub enum Kind {
+    /// One, as Hopter's heap does.
+    One,
+    /// Up to four, which is what [`Heap::make`] takes: a burst of four frees is kept, and handed out again
+    /// oldest first.
+    #[default]
+    Four,
+}
+
+impl Kind {
+    /// How many cache places a heap of this kind has.
+    pub const fn places(self) -> usize {
+        match self {
+            Kind::One => 1,
+            Kind::Four => 4,
+        }
+    }
+}
+
 /// A heap over words that are lent to it for `'a`.
 ///
 /// No call locks anything: see the [crate's text](crate).
@@ -32,6 +56,8 @@ pub const fn map_room(words: usize) -> usize {
 pub struct Heap<'a> {
     /// What the heap keeps between calls.
     record: Record,
+    /// How many chunks are cached at most.
+    kind: Kind,
     /// The address of the first word.
     start: NonNull<u32>,
     /// How many words are lent.
@@ -46,19 +72,47 @@ pub struct Heap<'a> {
 unsafe impl Send for Heap<'_> {}
 
 impl<'a> Heap<'a> {
-    /// Make a heap of all these words. `BadLength` unless there is an odd count of them, 5 to 65,529.
+    /// Make a heap of all these words, with four cache places. `BadLength` unless there is an odd count of
+    /// words, 5 to 65,529.
     pub fn make(words: &'a mut [u32]) -> Result<Heap<'a>, Refusal> {
-        let mut heap = Heap::over(Record::EMPTY, words);
+        Heap::make_as(Kind::Four, words)
+    }
+
+    /// As [`make`](Heap::make), with as many cache places as the kind says.
+    ///
+    /// ```
+    /// use lischemur::{Heap, Kind, Memory, Offset, Refusal};
+    ///
+    /// for (kind, third) in [(Kind::Four, Offset(4)), (Kind::One, Offset(20))] {
+    ///     let mut memory = Memory::<13>::new();
+    ///     let mut heap = Heap::make_as(kind, memory.words())?;
+    ///     let (first, second) = (heap.hand_out(12)?, heap.hand_out(12)?);
+    ///     heap.take_back(first)?;
+    ///     heap.take_back(second)?; // with one place this releases the first
+    ///     assert_eq!(heap.hand_out(12)?, third);
+    /// }
+    /// # Ok::<(), Refusal>(())
+    /// ```
+    pub fn make_as(kind: Kind, words: &'a mut [u32]) -> Result<Heap<'a>, Refusal> {
+        let mut heap = Heap::over_as(kind, Record::EMPTY, words);
         heap.make_again()?;
         Ok(heap)
     }
 
-    /// A heap that is there already, as [`into_parts`](Heap::into_parts) gave it or as memory kept it.
+    /// A heap that is there already, as [`into_parts`](Heap::into_parts) gave it or as memory kept it, with
+    /// four cache places.
     ///
     /// Nothing is trusted: on a record and words that are not a sound heap every call is refused.
     pub fn over(record: Record, words: &'a mut [u32]) -> Heap<'a> {
+        Heap::over_as(Kind::Four, record, words)
+    }
+
+    /// As [`over`](Heap::over), with as many cache places as the kind says. A record does not say of which
+    /// kind it was; one with more cached chunks than there are places is no sound heap.
+    pub fn over_as(kind: Kind, record: Record, words: &'a mut [u32]) -> Heap<'a> {
         Heap {
             record,
+            kind,
             len: words.len(),
             start: NonNull::from(words).cast(),
             compared: 0,
@@ -90,18 +144,24 @@ impl<'a> Heap<'a> {
     /// Hand out a payload of at least `size` bytes, all of it 0 up to its chunk's end. `ZeroSize`,
     /// `TooLarge`, `Damaged` and `NoFit` are tested in this order.
     pub fn hand_out(&mut self, size: u32) -> Result<Offset, Refusal> {
-        // SAFETY: as in `make_again`; any size is accepted.
-        let reply = unsafe {
-            door::lischemur_hand_out(&mut self.record, self.start.as_ptr(), self.count(), size)
+        let call = match self.kind {
+            Kind::One => door::lischemur_one_hand_out,
+            Kind::Four => door::lischemur_hand_out,
         };
+        // SAFETY: as in `make_again`; any size is accepted.
+        let reply = unsafe { call(&mut self.record, self.start.as_ptr(), self.count(), size) };
         self.answered(reply).map(Offset)
     }
 
     /// Take back a payload. `Damaged` and `NotLive` are tested in this order; any offset may be given.
     pub fn take_back(&mut self, payload: Offset) -> Result<(), Refusal> {
+        let call = match self.kind {
+            Kind::One => door::lischemur_one_take_back,
+            Kind::Four => door::lischemur_take_back,
+        };
         // SAFETY: as in `make_again`; any offset is accepted.
         let reply = unsafe {
-            door::lischemur_take_back(
+            call(
                 &mut self.record,
                 self.start.as_ptr(),
                 self.count(),
@@ -156,9 +216,12 @@ impl<'a> Heap<'a> {
     /// Whether record and words are sound. While they are not, every other call but zero and too
     /// large sizes, making again and the readers is `Damaged`.
     pub fn audit(&self) -> bool {
+        let call = match self.kind {
+            Kind::One => door::lischemur_one_audit,
+            Kind::Four => door::lischemur_audit,
+        };
         // SAFETY: start and length are those of words borrowed for `'a`, which are only read.
-        let sound =
-            unsafe { door::lischemur_audit(self.record, self.start.as_ptr(), self.count()) };
+        let sound = unsafe { call(self.record, self.start.as_ptr(), self.count()) };
         sound == 1
     }
 
@@ -181,9 +244,13 @@ impl<'a> Heap<'a> {
     /// # Ok::<(), Refusal>(())
     /// ```
     pub fn write_map<'r>(&self, room: &'r mut [u8]) -> Result<&'r [u8], Refusal> {
+        let call = match self.kind {
+            Kind::One => door::lischemur_one_write_map,
+            Kind::Four => door::lischemur_write_map,
+        };
         // SAFETY: as in `audit`; the room is borrowed here, and the archive's function accepts any.
         let reply = unsafe {
-            door::lischemur_write_map(
+            call(
                 self.record,
                 self.start.as_ptr(),
                 self.count(),
@@ -214,7 +281,8 @@ impl<'a> Heap<'a> {
         unsafe { door::lischemur_in_use(self.record) }
     }
 
-    /// Bytes committed: what tasks hold and the cached chunk, which the next handout that it fits gets.
+    /// Bytes committed: what tasks hold and the cached chunks, each of which the next handout that it fits
+    /// gets.
     pub fn committed(&self) -> u32 {
         // SAFETY: the function takes numbers only, and accepts any.
         unsafe { door::lischemur_committed(self.record) }
@@ -235,6 +303,11 @@ impl<'a> Heap<'a> {
     /// How many free chunks the last making, handout or taking back compared.
     pub fn compared(&self) -> u32 {
         self.compared
+    }
+
+    /// How many chunks are cached at most.
+    pub fn kind(&self) -> Kind {
+        self.kind
     }
 
     /// What the heap keeps between calls.

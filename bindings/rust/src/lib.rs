@@ -26,6 +26,9 @@
 //! - **Payloads.** The heap clears a payload, gives out a raw pointer to it, and does not read or write
 //!   it while it is live. Whoever does must know that it is; that is what `unsafe` is for there.
 //!
+//! A chunk that is taken back is cached for the next handout that it fits: up to four, or with
+//! [`Kind::One`] one, as Hopter's heap has it.
+//!
 //! [`words_for`] says how many words serve; [`served`], what a free chunk serves.
 //!
 //! Every call audits the whole heap first, so its time grows with the heap's length.
@@ -50,7 +53,7 @@ mod memory;
 mod refusal;
 
 pub use door::{Record, LAYOUT};
-pub use heap::{map_room, Heap, Offset, MAP_LINE};
+pub use heap::{map_room, Heap, Kind, Offset, MAP_LINE};
 #[cfg(target_has_atomic = "8")]
 pub use memory::StaticMemory;
 pub use memory::{accepted, served, words_for, Memory, LEAST_WORDS, MOST_WORDS};

@@ -14,6 +14,8 @@ use borrow.Author.Tests.{eq-eqb, eqb-true, eqb-false}
 use Rattle.words.specs.declared.names.Link.{Link}
 use Rattle.words.specs.Links.{narrow}
 use Rattle.words.specs.Sizes.{classOf}
+use Rattle.words.specs.Numbers.{numbers}
+use Rattle.cache.specs.Places.{cachedOf}
 use Rattle.words.proofs.Laws.Numbers.{length-numbers}
 use Rattle.words.proofs.Laws.Sizes.{class-below}
 use Rattle.rules.specs.Lists.{Mem, Seg}
@@ -26,29 +28,15 @@ use Rattle.rules.specs.Test.{soundᵇ}
 use Rattle.rules.proofs.Proved.{narrow-demands}
 use Rattle.rules.proofs.LiveSums.{live-and-held}
 use Rattle.audit.specs.declared.Figures.{Figures}
-use Rattle.audit.specs.Shown.{shown, cachedOf}
+use Rattle.audit.specs.Shown.{shown}
 use Rattle.audit.specs.Layout.{Chunk, free, used, pick, Tiles, freeLinks}
 use Rattle.audit.specs.Rings.{count, nextOf, prevOf}
-use Rattle.audit.proofs.Counting.{same-bit, diff-bit, none-or-some, chain-once}
+use Rattle.audit.proofs.Counting.{same-bit, diff-bit, none-or-some, mem-count, count-mem, chain-once}
 use Rattle.audit.proofs.Tilings.{all, backs, all-backs, sum-same, end-under, under-end}
 use Rattle.audit.proofs.Tilings as tilings
 use Rattle.audit.proofs.Sound.{ListRight, SoundPair}
 use Rattle.audit.proofs.Cached.{held-sum}
 use Rattle.audit.proofs.tiling.Places.{free-in, links-once}
-
--- COUNTS AND MEMBERS
-mem-count : (x : ℕ) (xs : List ℕ) → Mem x xs → 0 < count x xs
-mem-count x (y ∷ ys) (List·Memᴰ·head e) = let b = same-bit x y e in omega arith
-mem-count x (y ∷ ys) (List·Memᴰ·tail m) = let r = mem-count x ys m in omega arith
-
--- and what is counted is a member
-count-mem : (x : ℕ) (xs : List ℕ) → 0 < count x xs → Mem x xs
-count-mem x [] h = absurd (omega arith)
-count-mem x (y ∷ ys) h = go (λ q. count-mem x ys q) (ℕ-discrete x y)
-  where
-    go : (0 < count x ys → Mem x ys) → Dec (x ≡ y) → Mem x (y ∷ ys)
-    go f (yes e) = List·Memᴰ·head e
-    go f (no q) = let b = diff-bit x y q in List·Memᴰ·tail (f (omega arith))
 
 -- two answers that are true together
 same-answer : (a b : Bool) → (a ≡ true → b ≡ true) → (b ≡ true → a ≡ true) → a ≡ b
@@ -67,7 +55,8 @@ equal m n a b f g = go (decLe 1 m) (decLe 1 n)
     go (no p) (no q) = omega arith
 
 -- THE FREE CHUNKS' LINKS are the rules' slots
-links-free : (x k at : ℕ) (cs : List Chunk) → Legal (all cs) → 0 < count x (freeLinks k at cs) → (n : ℕ) × In (slot x n) (frees (at * 4) (all cs)) × (classOf n ≡ k)
+links-free : (x k at : ℕ) (cs : List Chunk) → Legal (all cs) → 0 < count x (freeLinks k at cs)
+    → (n : ℕ) × In (slot x n) (frees (at * 4) (all cs)) × (classOf n ≡ k)
 unfolding freeLinks pick frees
 links-free x k at [] l h = absurd (omega arith)
 links-free x k at (used n ∷ cs) l h =
@@ -85,7 +74,8 @@ links-free x k at (free n ∷ cs) l h = go (λ q. links-free x k (at + n / 4) cs
 
     go : (0 < count x (freeLinks k (at + n / 4) cs) → (m : ℕ) × In (slot x m) (frees ((at + n / 4) * 4) (all cs)) × (classOf m ≡ k))
         → (t : Bool) → eqb (classOf n) k ≡ t
-        → 0 < count x (pick t ((at + 6) ∷ freeLinks k (at + n / 4) cs) (freeLinks k (at + n / 4) cs)) → (m : ℕ) × In (slot x m) (slot (at * 4 / 4 + 6) n ∷ frees (at * 4 + n) (all cs)) × (classOf m ≡ k)
+        → 0 < count x (pick t ((at + 6) ∷ freeLinks k (at + n / 4) cs) (freeLinks k (at + n / 4) cs))
+        → (m : ℕ) × In (slot x m) (slot (at * 4 / 4 + 6) n ∷ frees (at * 4 + n) (all cs)) × (classOf m ≡ k)
     go f false q i = later (f i)
     go f true q i = go₂ (ℕ-discrete x (at + 6))
       where
@@ -106,8 +96,10 @@ free-links x n at (free m ∷ cs) l i = go (λ j. free-links x n (at + m / 4) cs
     e : at * 4 + m ≡ (at + m / 4) * 4
     e = let m8 = l .1 in omega arith
 
-    go : (In (slot x n) (frees ((at + m / 4) * 4) (all cs)) → 0 < count x (freeLinks (classOf n) (at + m / 4) cs)) → (t : Bool) → eqb (classOf m) (classOf n) ≡ t
-        → In (slot x n) (slot (at * 4 / 4 + 6) m ∷ frees (at * 4 + m) (all cs)) → 0 < count x (pick t ((at + 6) ∷ freeLinks (classOf n) (at + m / 4) cs) (freeLinks (classOf n) (at + m / 4) cs))
+    go : (In (slot x n) (frees ((at + m / 4) * 4) (all cs)) → 0 < count x (freeLinks (classOf n) (at + m / 4) cs)) → (t : Bool)
+        → eqb (classOf m) (classOf n) ≡ t
+        → In (slot x n) (slot (at * 4 / 4 + 6) m ∷ frees (at * 4 + m) (all cs))
+        → 0 < count x (pick t ((at + 6) ∷ freeLinks (classOf n) (at + m / 4) cs) (freeLinks (classOf n) (at + m / 4) cs))
     go f true q (List·Memᴰ·head j) = let y : x ≡ at * 4 / 4 + 6 = ap (λ (s : Slot). s .name) j in let b = same-bit x (at + 6) (omega arith) in omega arith
     go f false q (List·Memᴰ·head j) = absurd (eqb-false (classOf m) (classOf n) q (ap (λ (s : Slot). classOf (s .len)) (sym j)))
     go f true q (List·Memᴰ·tail j) = let r = f (subst (λ (b : ℕ). In (slot x n) (frees b (all cs))) e j) in omega arith
@@ -129,9 +121,9 @@ module _ (nx pv : ℕ → ℕ) (cs : List Chunk) (f : (c : ℕ) → c < 6 → Li
   chosen-right k (yes q) h = (f k q .chain, f k q .exact)
   chosen-right k (no q) h = absurd (q h)
 
-module _ (prev next : List Link) (f : Figures) (ws : List ℕ) where
+module _ (places : ℕ) (prev next : List Link) (f : Figures) (ws : List ℕ) where
   -- WHAT THE CODE CALLS SOUND IS SOUND
-  to-rules : length prev ≡ 6 → length next ≡ 6 → SoundPair prev next f ws → Sound (ops narrow) 65529 1 (shown prev next f ws)
+  to-rules : length prev ≡ 6 → length next ≡ 6 → SoundPair places prev next f ws → Sound (ops narrow) 65529 places (shown prev next f ws)
   unfolding nextOf prevOf
   to-rules p n z =
       let cs = z .layout in
@@ -164,8 +156,8 @@ module _ (prev next : List Link) (f : Figures) (ws : List ℕ) where
           };
           cache = z .cached;
           right = record {
-            inUse = (let l = live-and-held (cachedOf (f .cached .0)) (all cs) (t .0) (z .cached .once) (z .cached .used) in
-                let k = held-sum ws cs (z .tiles) (f .cached .0) (z .cached) in let i = F .inUse in let u = sum-same cs in omega arith);
+            inUse = (let l = live-and-held (cachedOf (numbers (f .cached))) (all cs) (t .0) (z .cached .once) (z .cached .used) in
+                let k = held-sum ws cs (z .tiles) places (numbers (f .cached)) (z .cached) in let i = F .inUse in let u = sum-same cs in omega arith);
             committed = F .committed ∙ sym (sum-same cs);
             peak = F .peak;
             high = F .high;
@@ -178,7 +170,7 @@ module _ (prev next : List Link) (f : Figures) (ws : List ℕ) where
       )
 
   -- AND WHAT IS SOUND THE CODE CALLS SO
-  module _ (m : Model) (s : Shows (ops narrow) 65529 1 (shown prev next f ws) m) where
+  module _ (m : Model) (s : Shows (ops narrow) 65529 places (shown prev next f ws) m) where
     -- the layout
     abbrev ds : List Chunk
     ds = backs (m .cs)
@@ -204,7 +196,8 @@ module _ (prev next : List Link) (f : Figures) (ws : List ℕ) where
     listed-link : (c x : ℕ) → c < 6 → 0 < count x (m .orders c) → 0 < count x (freeLinks c 0 ds)
     listed-link c x q a =
         let r = s .exact .only c x q (count-mem x (m .orders c) a) in
-        subst (λ (k : ℕ). 0 < count x (freeLinks k 0 ds)) (r .2) (free-links x (r .0) 0 ds legal (subst (λ cs. In (slot x (r .0)) (frees 0 cs)) (sym same) (r .1)))
+        let i = subst (λ cs. In (slot x (r .0)) (frees 0 cs)) (sym same) (r .1) in
+        subst (λ (k : ℕ). 0 < count x (freeLinks k 0 ds)) (r .2) (free-links x (r .0) 0 ds legal i)
 
     -- and back
     link-listed : (c x : ℕ) → 0 < count x (freeLinks c 0 ds) → 0 < count x (m .orders c)
@@ -225,11 +218,13 @@ module _ (prev next : List Link) (f : Figures) (ws : List ℕ) where
         (listed-link c x q) (link-listed c x)
 
     -- the cached chunk is right for it
-    cache : CacheRight 1 (cachedOf (f .cached .0)) (all ds)
-    cache = subst (λ cs. CacheRight 1 (cachedOf (f .cached .0)) cs) (sym same) (subst (λ ks. CacheRight 1 ks (m .cs)) (sym (ap (λ r. r .cached) (s .figs))) (s .cache))
+    cache : CacheRight places (cachedOf (numbers (f .cached))) (all ds)
+    cache =
+        let c = subst (λ ks. CacheRight places ks (m .cs)) (sym (ap (λ r. r .cached) (s .figs))) (s .cache) in
+        subst (λ cs. CacheRight places (cachedOf (numbers (f .cached))) cs) (sym same) c
 
     -- the pair is sound by words and counts
-    from-rules : SoundPair prev next f ws
+    from-rules : SoundPair places prev next f ws
     from-rules =
         let g : FiguresRight (shown prev next f ws .rest) (4 * (length ws - 1)) (all ds) =
         subst (λ cs. FiguresRight (shown prev next f ws .rest) (4 * (length ws - 1)) cs) (sym same)
@@ -245,8 +240,8 @@ module _ (prev next : List Link) (f : Figures) (ws : List ℕ) where
             least = a .0;
             most = a .1;
             odd = a .2;
-            inUse = (let l = live-and-held (cachedOf (f .cached .0)) (all ds) legal (cache .once) (cache .used) in
-                let k = held-sum ws ds tiles (f .cached .0) cache in let i = g .inUse in let u = sum-same ds in omega arith);
+            inUse = (let l = live-and-held (cachedOf (numbers (f .cached))) (all ds) legal (cache .once) (cache .used) in
+                let k = held-sum ws ds tiles places (numbers (f .cached)) cache in let i = g .inUse in let u = sum-same ds in omega arith);
             committed = g .committed ∙ sum-same ds;
             peak = g .peak;
             high = g .high;
@@ -258,7 +253,8 @@ module _ (prev next : List Link) (f : Figures) (ws : List ℕ) where
         }
 
   -- SO THE ANSWER IS THE RULES' TEST
-  pub tells : length prev ≡ 6 → length next ≡ 6 → (b : Bool) → (b ≡ true) ↔ SoundPair prev next f ws → b ≡ soundᵇ (ops narrow) 65529 1 (shown prev next f ws)
+  pub tells : length prev ≡ 6 → length next ≡ 6 → (b : Bool) → (b ≡ true) ↔ SoundPair places prev next f ws
+      → b ≡ soundᵇ (ops narrow) 65529 places (shown prev next f ws)
   tells p n b e =
-      let t = narrow-demands 1 .tested (shown prev next f ws) in
+      let t = narrow-demands places .tested (shown prev next f ws) in
       same-answer b _ (λ h. t .1 (to-rules p n (e .0 h))) (λ h. let z = t .0 h in e .1 (from-rules (z .0) (z .1)))

@@ -1,17 +1,26 @@
 -- THE PAIR AS THE RULES SEE IT: a record's links and figures, beside its words, as a state of the rules. This is all of this folder that a reader of the
 -- audit's contract has to read.
-use mathlib.Core.List.{List, [], _∷_}
+use mathlib.Core.List.{List}
 use Prim.Native.Nat.{ℕ}
-use lib.Dec.{eqb}
 use Rattle.words.specs.declared.names.Link.{Link}
-use Rattle.words.specs.Choice.{pick}
 use Rattle.words.specs.Numbers.{numbers}
 use Rattle.rules.specs.Making.{State}
+use Rattle.rules.specs.Rules as rules
+use Rattle.cache.specs.Places.{cachedOf}
 use Rattle.audit.specs.declared.Figures.{Figures}
 
--- the cached chunks by a record's link: link 0 means none
-abbrev pub cachedOf : ℕ → List ℕ
-cachedOf l = pick (eqb l 0) [] (l ∷ [])
+-- the figures, with the cached chunks as a list
+abbrev pub figuresOf : Figures → rules.Figures
+figuresOf f =
+    record {
+      words = f .words;
+      cached = cachedOf (numbers (f .cached));
+      inUse = f .«in_use»;
+      committed = f .committed;
+      peak = f .peak;
+      high = f .high;
+      flag = f .fresh;
+    }
 
 -- the state: the links as numbers, the words, and the figures
 abbrev pub shown : List Link → List Link → Figures → List ℕ → State
@@ -20,5 +29,5 @@ shown prev next f ws =
       prevs = numbers prev;
       nexts = numbers next;
       words = ws;
-      rest = record { words = f .words; cached = cachedOf (f .cached .0); inUse = f .«in_use»; committed = f .committed; peak = f .peak; high = f .high; flag = f .fresh };
+      rest = figuresOf f;
     }

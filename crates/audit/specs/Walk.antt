@@ -2,7 +2,7 @@
 use Prim.Native.Nat.{ℕ, zero, suc, _+_, _-_, _*_, _/_, _%_, _≤_}
 use mathlib.Core.Path.{_≡_}
 use mathlib.Core.List.{List, [], _∷_}
-use mathlib.Core.Bool.{Bool, true, not}
+use mathlib.Core.Bool.{not}
 use lib.ListN.{length, getD}
 use lib.Dec.{ltb, leb, eqb}
 use Rattle.words.specs.Choice.{bit}
@@ -105,18 +105,6 @@ firstFrom (suc f) ws at = pastUsed (firstFrom f ws) at (seenAt ws at 1)
 -- its word; the guard's where no chunk is free
 unfoldable pub firstFree : List ℕ → ℕ
 firstFree ws = firstFrom (length ws) ws 0
-
--- THE CACHED CHUNK by its link l. Its word among n, which is no header's where the link names no chunk
-unfoldable pub cachedWord : ℕ → ℕ → ℕ
-cachedWord n l = pick (ltb l 6) n (l - 6)
-
--- no chunk, or one of which so many bytes are held
-unfoldable pub cacheBy : ℕ → ℕ → Bool
-cacheBy l held = pick (eqb l 0) true (not (eqb held 0))
-
--- no chunk, or a used one
-unfoldable pub cacheRightᵇ : List ℕ → ℕ → Bool
-cacheRightᵇ ws l = cacheBy l (heldAt ws (cachedWord (length ws) l))
 
 -- THE FIGURES, against n words, the sum of used lengths, what of it is cached, and the end of the last used chunk
 pub record FiguresFit (f : Figures) (n sum held top : ℕ) : Type 0 where

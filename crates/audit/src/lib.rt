@@ -1,7 +1,8 @@
 // The audit: whether a record and its words are sound (document 01, "Sound"), the test that answer 5 goes by. It reads any record and any words.
 //
 // What it costs: the tiling is walked with all tests, and from the first free chunk on once more with one; each class list is followed once both
-// ways, and once more for each window of 2,048 words. A list of none costs two reads. The stack holds 128 bytes of marks beside the locals, whatever the length.
+// ways, and once more for each window of 2,048 words. A list of none costs two reads. The first walk waits for the cached chunks' words one after the
+// other, one test a used chunk. The stack holds 128 bytes of marks beside the locals, whatever the length.
 //
 //     tiling    chunks, from one header to the next
 //     rings     the class lists as mirrored rings
@@ -15,7 +16,9 @@ ghost use Rattle.words.specs.Links.{narrow};
 ghost use Rattle.rules.specs.State.{ops};
 ghost use Rattle.rules.specs.Test.{soundᵇ};
 ghost use Rattle.audit.specs.Shown.{shown};
-ghost use Rattle.audit.specs.Walk.{FiguresFit, cachedWord, cacheBy};
+ghost use Rattle.words.specs.Numbers.{numbers};
+ghost use Rattle.audit.specs.Walk.{FiguresFit};
+ghost use Rattle.audit.specs.Cached.{cachedWord, wordsOf, frontRight, linksRight};
 
 mod rings;
 mod tiling;
@@ -35,30 +38,70 @@ pub struct Figures {
     pub committed: u32,
     pub peak: u32,
     pub high: u32,
-    // The cached chunk; link 0 for none.
-    pub cached: Link,
+    // The cached chunks, oldest first; link 0 for an unused place.
+    pub cached: [Link; 4],
     // The flag: 0 off, 1 on.
-    pub fresh: u16,
+    pub fresh: u32,
 }
 
-// The word of the cached chunk's header; where the link names no chunk, the heap's length, which is no header's.
+// The word of a cached chunk's header: where the link names no chunk, the heap's length, and where it names one past the words, the guard. Neither is a
+// used chunk's header.
 fn cached_word(n: usize, cached: Link) -> usize
     ensures { λ r. ⌜ r ≡ cachedWord n (cached .0) ⌝ }
 {
     if cached.0 < 6 {
         return n;
     }
-    cached.0 as usize - 6
+    let w = cached.0 as usize - 6;
+    if w < n { w } else { words::monus(n, 1) }
 }
 
-// Whether the cached chunk, if there is one, is a used one: one of some length.
-fn cache_right(cached: Link, held: usize) -> bool
-    ensures { λ r. ⌜ r ≡ cacheBy (cached .0) held ⌝ }
+// The words of the cached chunks' headers.
+fn cached_words(n: usize, c: [Link; 4]) -> [usize; 4]
+    ensures { λ r. ⌜ r ≡ wordsOf n (numbers c) ⌝ }
 {
-    if cached.0 == 0 {
-        return true;
+    [
+        cached_word(n, c[0]),
+        cached_word(n, c[1]),
+        cached_word(n, c[2]),
+        cached_word(n, c[3]),
+    ]
+}
+
+// Whether a link is right before others: link 0 before another link 0, or a chunk's link that does not come again.
+fn front_right(l: Link, others: [Link; 4]) -> bool
+    ensures { λ r. ⌜ r ≡ frontRight (l .0) (numbers others) ⌝ }
+{
+    if l.0 == 0 {
+        return others[0].0 == 0;
     }
-    held != 0
+    if l.0 < 6 {
+        return false;
+    }
+    !cache::holds(others, l.0 as u32)
+}
+
+// Whether the cached links are right by themselves: no unused place before a used one, chunks' links, all different, no more than there are places.
+fn links_right(c: [Link; 4], places: usize) -> bool
+    ensures { λ r. ⌜ r ≡ linksRight places (numbers c) ⌝ }
+{
+    let r0 = front_right(c[0], [c[1], c[2], c[3], Link(0)]);
+    if !r0 {
+        return false;
+    }
+    let r1 = front_right(c[1], [c[2], c[3], Link(0), Link(0)]);
+    if !r1 {
+        return false;
+    }
+    let r2 = front_right(c[2], [c[3], Link(0), Link(0), Link(0)]);
+    if !r2 {
+        return false;
+    }
+    let r3 = front_right(c[3], [Link(0), Link(0), Link(0), Link(0)]);
+    if !r3 {
+        return false;
+    }
+    cache::used_places(c) <= places
 }
 
 // Whether the figures are right for n words whose used chunks sum up to `sum` and end at `top`, `held` bytes of them cached.
@@ -106,21 +149,31 @@ fn figures_right(f: Figures, n: usize, sum: usize, held: usize, top: usize) -> b
 }
 
 // Whether a record and its words are sound.
-pub fn audit(prev: [Link; 6], next: [Link; 6], figures: Figures, heap: &[u32]) -> bool
-    ensures { λ r. ⌜ r ≡ soundᵇ (ops narrow) 65529 1 (shown prev next figures (now (heap .entry))) ⌝ }
+pub fn audit(
+    prev: [Link; 6],
+    next: [Link; 6],
+    figures: Figures,
+    heap: &[u32],
+    places: usize,
+) -> bool
+    ensures { λ r. ⌜ r ≡ soundᵇ (ops narrow) 65529 places (shown prev next figures (now (heap .entry))) ⌝ }
 {
-    let w = cached_word(heap.len(), figures.cached);
-    let t = count_chunks(heap, w);
+    let cached = figures.cached;
+    let links = links_right(cached, places);
+    if !links {
+        return false;
+    }
+    let ws = cached_words(heap.len(), cached);
+    let t = count_chunks(heap, ws);
     let whole = t.whole;
     if !whole {
         return false;
     }
-    let right = figures_right(figures, heap.len(), t.sum, t.held, t.top);
-    if !right {
+    if t.next != heap.len() {
         return false;
     }
-    let cache = cache_right(figures.cached, t.held);
-    if !cache {
+    let right = figures_right(figures, heap.len(), t.sum, t.held, t.top);
+    if !right {
         return false;
     }
     let first = t.first;

@@ -1,14 +1,15 @@
 // The chart program: reads trace frames from standard input, as the trace program does, and at their end writes the map of the heap in use (W-201).
 //
-// Its memory is 16,383 words set to 0. Reading is in crate `stream`, what the map is in crate `map`. No line is answered, and a last line without its
+// Its memory is 16,383 words set to 0, and its heap has four cache places. Reading is in crate `stream`, what the map is in crate `map`. No line is answered, and a last line without its
 // line feed does nothing. Where there is no map, as before a heap is made, one answer line says the number: 5, with value and count 0. A read that
 // fails ends the program with nothing written: the input's rest is not known.
+use heap::Kind;
 use heap::Record;
 use map::Answer;
 
 fn main() {
     let mut memory = [0u32; 16383];
-    let ran = stream::run(&mut memory, false);
+    let ran = stream::run(&mut memory, false, Kind::Four);
     if ran.failed {
         return;
     }
@@ -28,7 +29,7 @@ fn fill(rec: Record, memory: &[u32], room: &mut [u8]) -> usize {
     if memory.len() < n {
         return refuse(room, 5);
     }
-    let answer = map::write_map(rec, &memory[0..n], room);
+    let answer = map::write_map(rec, &memory[0..n], room, Kind::Four);
     match answer {
         Answer::Done(chunks) => lines(room.len(), chunks),
         Answer::Damaged => refuse(room, 5),

@@ -26,44 +26,44 @@ use Rattle.map.proofs.Maps.{map-of-sound-heap, what-is-written}
 use Rattle.door.specs.Reply.{Counted}
 
 -- a sound heap has a row for each four words at most
-rows-few : (s : State) → Sound base 65529 1 s → 4 * length (rowsOf s) ≤ length (s .words) - 1
-rows-few s h =
+rows-few : (places : ℕ) (s : State) → Sound base 65529 places s → 4 * length (rowsOf s) ≤ length (s .words) - 1
+rows-few places s h =
     let m = h .0 in
-    let rows : length (rowsOf s) ≡ length (m .cs) = ap length (map-of-sound-heap 1 s m (h .1) .0) ∙ length-map (m .figs .cached) 0 (m .cs) in
+    let rows : length (rowsOf s) ≡ length (m .cs) = ap length (map-of-sound-heap places s m (h .1) .0) ∙ length-map (m .figs .cached) 0 (m .cs) in
     let fills = h .1 .fills in
     omega (arith, chunks-few (m .cs) (h .1 .legal))
 
 -- where the test says no the heap is damaged
-not-sound : (s : State) → soundAt s ≡ false → Sound base 65529 1 s → ⊥
-not-sound s e h = let z : _≡_ {A = ℕ} 0 1 = ap bit (sym e ∙ true-sound ours s h) in omega arith
+not-sound : (places : ℕ) (s : State) → soundAt places s ≡ false → Sound base 65529 places s → ⊥
+not-sound places s e h = let z : _≡_ {A = ℕ} 0 1 = ap bit (sym e ∙ true-sound (ours places) s h) in omega arith
 
-module _ (s : State) (room : List ℕ) where
+module _ (places : ℕ) (s : State) (room : List ℕ) where
   -- the number that comes with the answer is the rows', or 0
-  written-few : written s room .value ≤ 16382
-  written-few = go (soundAt s) refl (decLe (19 * length (rowsOf s)) (length room))
+  written-few : written places s room .value ≤ 16382
+  written-few = go (soundAt places s) refl (decLe (19 * length (rowsOf s)) (length room))
     where
-      is : {o : Outcome (List ℕ)} → written s room ≡ o → written s room .value ≡ o .value
+      is : {o : Outcome (List ℕ)} → written places s room ≡ o → written places s room .value ≡ o .value
       is e = ap (λ (o : Outcome (List ℕ)). o .value) e
 
-      go : (b : Bool) → soundAt s ≡ b → Dec (19 * length (rowsOf s) ≤ length room) → written s room .value ≤ 16382
+      go : (b : Bool) → soundAt places s ≡ b → Dec (19 * length (rowsOf s) ≤ length room) → written places s room .value ≤ 16382
       go true e (yes enough) =
-          let h = sound-true ours s e in
+          let h = sound-true (ours places) s e in
           let a = h .1 .accepted .1 in
-          omega (arith, rows-few s h, is (what-is-written s room .2 h enough))
-      go true e (no short) = omega (arith, is (what-is-written s room .1 (sound-true ours s e) (omega arith)))
-      go false e d = omega (arith, is (what-is-written s room .0 (not-sound s e)))
+          omega (arith, rows-few places s h, is (what-is-written places s room .2 h enough))
+      go true e (no short) = omega (arith, is (what-is-written places s room .1 (sound-true (ours places) s e) (omega arith)))
+      go false e d = omega (arith, is (what-is-written places s room .0 (not-sound places s e)))
 
   -- ROOM THAT SUFFICES
-  pub room-suffices : 19 * ((length (s .words) - 1) / 4) ≤ length room → written s room .number ≡ 6 → ⊥
-  room-suffices enough z = go (soundAt s) refl
+  pub room-suffices : 19 * ((length (s .words) - 1) / 4) ≤ length room → written places s room .number ≡ 6 → ⊥
+  room-suffices enough z = go (soundAt places s) refl
     where
-      is : {o : Outcome (List ℕ)} → written s room ≡ o → o .number ≡ 6
+      is : {o : Outcome (List ℕ)} → written places s room ≡ o → o .number ≡ 6
       is e = ap (λ (o : Outcome (List ℕ)). o .number) (sym e) ∙ z
 
-      go : (b : Bool) → soundAt s ≡ b → ⊥
-      go true e = let h = sound-true ours s e in omega (arith, is (what-is-written s room .2 h (omega (arith, rows-few s h))))
-      go false e = omega (arith, is (what-is-written s room .0 (not-sound s e)))
+      go : (b : Bool) → soundAt places s ≡ b → ⊥
+      go true e = let h = sound-true (ours places) s e in omega (arith, is (what-is-written places s room .2 h (omega (arith, rows-few places s h))))
+      go false e = omega (arith, is (what-is-written places s room .0 (not-sound places s e)))
 
 -- AN ANSWER'S NUMBER FITS
-pub answer-counted : (a : Answer) (s : State) (room vs : List ℕ) → told a vs ≡ written s room → Counted a
-answer-counted a s room vs e = omega (arith, ap (λ (o : Outcome (List ℕ)). o .value) e, written-few s room)
+pub answer-counted : (places : ℕ) (a : Answer) (s : State) (room vs : List ℕ) → told a vs ≡ written places s room → Counted a
+answer-counted places a s room vs e = omega (arith, ap (λ (o : Outcome (List ℕ)). o .value) e, written-few places s room)

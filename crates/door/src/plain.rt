@@ -4,28 +4,46 @@
 ghost use mathlib.Core.Path.{_≡_};
 ghost use Rattle.rules.specs.Demands.{hand, back};
 ghost use Rattle.rules.specs.Making.{acceptedᵇ};
+ghost use Rattle.rules.specs.Kind.{one, four};
 ghost use Rattle.heap.specs.Seen.{seen, base};
 ghost use Rattle.door.specs.Reply.{replied, makeOver};
 use super::reply::Replied;
 use super::reply::in_numbers;
 use heap::Answer;
+use heap::Kind;
 use heap::Out;
 use heap::Record;
 use words::ByteOffset;
 
 // Handing out.
 pub(crate) fn hand_out_plain(rec: Record, heap: &mut [u32], size: u32) -> Replied
-    ensures { λ q. ⌜ replied (q .reply) (seen (q .rec) (now (heap .exit))) ≡ hand base 65529 1 (seen rec (now (heap .entry))) size ⌝ }
+    ensures { λ q. ⌜ replied (q .reply) (seen (q .rec) (now (heap .exit))) ≡ hand base 65529 (four .places) (seen rec (now (heap .entry))) size ⌝ }
 {
-    let out = rec.hand_out(heap, size);
+    let out = rec.hand_out(heap, size, Kind::Four);
     in_numbers(out)
 }
 
 // Taking back.
 pub(crate) fn take_back_plain(rec: Record, heap: &mut [u32], payload: u32) -> Replied
-    ensures { λ q. ⌜ replied (q .reply) (seen (q .rec) (now (heap .exit))) ≡ back base 65529 1 (seen rec (now (heap .entry))) payload ⌝ }
+    ensures { λ q. ⌜ replied (q .reply) (seen (q .rec) (now (heap .exit))) ≡ back base 65529 (four .places) (seen rec (now (heap .entry))) payload ⌝ }
 {
-    let out = rec.take_back(heap, ByteOffset(payload));
+    let out = rec.take_back(heap, ByteOffset(payload), Kind::Four);
+    in_numbers(out)
+}
+
+// Handing out, with one cache place.
+pub(crate) fn hand_out_one(rec: Record, heap: &mut [u32], size: u32) -> Replied
+    ensures { λ q. ⌜ replied (q .reply) (seen (q .rec) (now (heap .exit))) ≡ hand base 65529 (one .places) (seen rec (now (heap .entry))) size ⌝ }
+{
+    let out = rec.hand_out(heap, size, Kind::One);
+    in_numbers(out)
+}
+
+// Taking back, with one cache place.
+pub(crate) fn take_back_one(rec: Record, heap: &mut [u32], payload: u32) -> Replied
+    ensures { λ q. ⌜ replied (q .reply) (seen (q .rec) (now (heap .exit))) ≡ back base 65529 (one .places) (seen rec (now (heap .entry))) payload ⌝ }
+{
+    let out = rec.take_back(heap, ByteOffset(payload), Kind::One);
     in_numbers(out)
 }
 

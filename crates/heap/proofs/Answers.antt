@@ -1,24 +1,26 @@
 -- How the public calls join: of each way out of a call, that its callees' promises give the rules' outcome. Assumes nothing.
---     ours            narrow links, up to 65,529 words, one cache place: the edition that this heap is
+--     ours            narrow links, up to 65,529 words, any number of cache places: the editions that this heap is
+--     sound-four      what is sound for a kind is sound with four places
 --     make-..         making;  one-chunk-by: its one free chunk
---     serves-..       whether the cached chunk serves
+--     cache-packed    in a sound pair no unused place stands before a used one
 --     served-..       a handout from the cache;  listed-..: from the lists
 --     live-..         which offsets are live
 --     settled-..      a chunk taken back
 --     hand-.., back-..    the tests in their order
 use mathlib.Core.Path.{_≡_, refl, sym, ap, _∙_, subst}
 use mathlib.Core.Logic.{_≢_}
-use mathlib.Core.Bool.{Bool, true, false, false≢true}
+use mathlib.Core.Bool.{Bool, true, false}
 use mathlib.Core.List.{List, [], _∷_, _++_, List·Memᴰ·head}
-use Prim.Native.Nat.{ℕ, _+_, _-_, _*_, _/_, _%_, _^_, _≤_, _<_}
+use Prim.Native.Nat.{ℕ, _+_, _-_, _*_, _/_, _%_, _^_, _≤_, _<_, min}
 use native.Mathlib.Omega.{arith}
-use native.Mathlib.Decide.{ℕ-discrete}
-use borrow.Author.Tests.{lt-ltb, le-ltb, lt-leb, le-leb, leb-true, leb-false, eq-eqb, ne-eqb}
+use borrow.Author.Tests.{lt-ltb, le-ltb, lt-leb, le-leb, leb-true, eq-eqb, ne-eqb}
 use lib.Dec.{eqb, leb, ltb}
-use lib.ListN.{length, set}
+use lib.ListN.{length, getD, set, drop, length-append}
 use Rattle.words.specs.declared.names.Link.{Link}
 use Rattle.words.specs.declared.names.ByteOffset.{ByteOffset}
 use Rattle.words.specs.Choice.{pick}
+use Rattle.words.specs.Numbers.{numbers}
+use Rattle.words.proofs.Laws.Numbers.{numbers-at, length-numbers}
 use Rattle.words.specs.Names.{links, offsets, payloads, heldName}
 use Rattle.words.specs.Sizes.{classOf, roundedOf}
 use Rattle.words.specs.Tags.{at, lengthOf, rightOf, footerOf}
@@ -28,21 +30,27 @@ use Rattle.rules.specs.Lists.{Mem}
 use Rattle.rules.specs.Steps.{portion, lengthAt, unlink, link, setLeft, clearLeft, markFree, markUsed, oneChunk, returnExcess, takeChunk, emptied, leftFree, rightFree, merge, merged, releaseChunk}
 use Rattle.rules.specs.Search.{Found, nowhere, lost}
 use Rattle.rules.specs.Search as rule
-use Rattle.rules.specs.Rules.{Figures, Outcome, says, byteOf, nameOf, Chosen, none, one, serves, choose, listed, counted, released, firstFit, fromList, fromCache, serve, handOut, live, settled, takeBack}
+use Rattle.rules.specs.Rules.{Figures, Outcome, says, byteOf, nameOf, one, choose, listed, counted, released, firstFit, fromList, fromCache, serve, handOut, live, settled, takeBack}
+use Rattle.rules.specs.Rules as rules
 use Rattle.rules.specs.Making.{State, make, fresh}
 use Rattle.rules.specs.Demands.{hand, back}
 use Rattle.rules.specs.Place.{usedAt, tile, usedWalk}
 use Rattle.rules.proofs.Place.{used-tile}
-use Rattle.rules.proofs.Follow.{walkedFit}
 use Rattle.heap.specs.declared.record.Record.{Record}
+use Rattle.heap.specs.declared.kind.Kind.{Kind}
+use Rattle.heap.specs.declared.kind.Kind.the-variants.{One, Four}
 use Rattle.heap.specs.declared.calls.Answer.{Answer}
 use Rattle.heap.specs.declared.calls.Answer.the-variants.{Done, ZeroSize, TooLarge, NoFit, NotLive, Damaged, BadLength}
-use Rattle.heap.specs.Seen.{seen, base, figuresOf, withCached, countedIn, countedOut, emptyRecord, freshRecord}
+use Rattle.heap.specs.Seen.{seen, base, figuresOf, withCached, countedIn, countedOut, emptyRecord, freshRecord, FourPlaces}
+use Rattle.heap.specs.Kind.{placesOf}
 use Rattle.steps.specs.Chunk.{freed, leftFreeIn, rightFreeIn, emptiedIn, Releasable}
 use Rattle.heap.proofs.Joins.{emptied-seen}
-use Rattle.heap.specs.Answer.{outcome, soundAt, servedBy, cacheServes, Served}
-use Rattle.audit.specs.Shown.{cachedOf}
+use Rattle.heap.specs.Answer.{outcome, soundAt, Served}
+use Rattle.cache.specs.Places.{cachedOf, usedPlaces, leftOut, choiceOf}
+use Rattle.cache.proofs.Laws.{Packed, packed, length-cached, set-last, turned, oldest-cached, choose-hit, choose-miss, listed-cached}
 use Rattle.rules.proofs.Store.{Edition}
+use Rattle.rules.proofs.Decide.{sound-more}
+use Rattle.rules.proofs.Follow.{Picked, choose-picked, walkedFit}
 use Rattle.words.proofs.Laws.Links.{narrow-lawful}
 use Rattle.rules.proofs.Editions.{edition, narrow-fits}
 use Rattle.rules.proofs.Bounds.{FoundFits, walked-fitᵇ, found-fitsᵇ, never-lostᵇ, nowhere-shortᵇ, CachedFits, cached-fitsᵇ, cached-heldᵇ, ReleaseFits, release-fitsᵇ, LiveFits, live-fitsᵇ, FiguresFit, figures-fitᵇ}
@@ -57,26 +65,43 @@ one-chunk-by r q ws ws1 ws2 ws3 n g b k h eg eb e1 e2 ek eq =
     eq ∙ rw (e2, e1, ek, eb, eg) (rw p refl)
 
 pub make-short : (ws : List ℕ) → length ws < 5 → outcome BadLength (seen emptyRecord ws) ≡ make narrow 65529 ws
-unfolding make
+unfolding make cachedOf
 make-short ws h = rw (lt-leb _ _ h)
 
 pub make-long : (ws : List ℕ) → 65529 < length ws → outcome BadLength (seen emptyRecord ws) ≡ make narrow 65529 ws
-unfolding make
+unfolding make cachedOf
 make-long ws h = let p : 5 ≤ length ws = omega arith in rw (le-leb _ _ p, lt-leb _ _ h)
 
 pub make-even : (ws : List ℕ) → 5 ≤ length ws → length ws ≤ 65529 → (length ws % 2 ≡ 1 → ⊥) → outcome BadLength (seen emptyRecord ws) ≡ make narrow 65529 ws
-unfolding make
+unfolding make cachedOf
 make-even ws h k e = rw (le-leb _ _ h, le-leb _ _ k, ne-eqb _ _ e)
 
 pub make-done : (r q : Record) (ws ws1 : List ℕ) (n : ℕ) → n ≡ length ws → 5 ≤ length ws → length ws ≤ 65529 → length ws % 2 ≡ 1 → r ≡ freshRecord n
     → seen q ws1 ≡ oneChunk base (seen r ws) (4 * (length ws - 1)) → says 0 0 0 (seen q ws1) ≡ make narrow 65529 ws
-unfolding make
+unfolding make cachedOf
 make-done r q ws ws1 n en h k e er eq = rw (le-leb _ _ h, le-leb _ _ k, eq-eqb _ _ e) (ap (says 0 0 0) (eq ∙ rw (er, en) refl))
 
 -- ---- THE EDITION, and what its soundness says of a record
 
-pub ours : Edition base 65529 1
-ours = edition narrow-lawful 65529 1 narrow-fits
+pub ours : (places : ℕ) → Edition base 65529 places
+ours places = edition narrow-lawful 65529 places narrow-fits
+
+-- an audit of as many places as a kind has
+pub sound-by : (s : State) (b : Bool) (m places : ℕ) → b ≡ soundAt m s → m ≡ places → b ≡ soundAt places s
+sound-by s b m places e h = e ∙ ap (λ (n : ℕ). soundAt n s) h
+
+-- each kind has a place, and at most four
+pub places-some : (k : Kind) → 0 < placesOf k
+places-some One = omega arith
+places-some Four = omega arith
+
+pub places-few : (k : Kind) → placesOf k ≤ 4
+places-few One = omega arith
+places-few Four = omega arith
+
+-- so what is sound for it is sound with four
+pub sound-four : (k : Kind) (s : State) (b : Bool) → b ≡ soundAt (placesOf k) s → b ≡ true → soundAt 4 s ≡ true
+sound-four k s b e f = sound-more (ours (placesOf k)) (ours 4) (places-few k) s (sym e ∙ f)
 
 -- ---- PLACES
 
@@ -92,99 +117,67 @@ payload-place x i p ei hi ep = omega arith
 
 -- ---- THE CACHE
 
--- a difference against 512 is a sum against it
-slack-same : (n z : ℕ) → z ≤ n → leb (n - z) 512 ≡ leb n (z + 512)
-slack-same n z h = go (leb (n - z) 512) refl
-  where
-    go : (t : Bool) → leb (n - z) 512 ≡ t → t ≡ leb n (z + 512)
-    go true e = let q = leb-true (n - z) 512 e in let p : n ≤ z + 512 = omega arith in sym (le-leb _ _ p)
-    go false e = let q = leb-false (n - z) 512 e in let p : z + 512 < n = omega arith in sym (lt-leb _ _ p)
+-- no unused place stands before a used one: a cached chunk's link is no 0
+pub cache-packed : (r : Record) (ws : List ℕ) → soundAt 4 (seen r ws) ≡ true → Packed (numbers (r .cached))
+cache-packed r ws ok = packed (numbers (r .cached)) (λ m. let n = cached-fitsᵇ (ours 4) (seen r ws) ok 0 m .named in omega arith)
 
--- the one place of the cache: a chunk was chosen, or none was
-chosen : (size : ℕ → ℕ) (z l : ℕ) → (l ≡ 0 → ⊥) → choose size z (cachedOf l) ≡ pick (serves (size l) z) (one l []) none
-unfolding choose
-chosen size z l h = rw (ne-eqb l 0 h) refl
+-- k is the place of the oldest cached chunk that serves z bytes, or 4
+module _ (r : Record) (ws : List ℕ) (z k : ℕ) (h : Served (seen r ws) z) (four : FourPlaces r)
+    (ek : k ≡ choiceOf (λ l. lengthOf (at ws (l - 6))) z (numbers (r .cached))) where
+  -- the lengths that the headers say, and the link in that place
+  abbrev size : ℕ → ℕ
+  size = lengthAt base (seen r ws)
 
-unchosen : (size : ℕ → ℕ) (z l : ℕ) → l ≡ 0 → choose size z (cachedOf l) ≡ none
-unfolding choose
-unchosen size z l h = rw (eq-eqb l 0 h) refl
+  abbrev found : ℕ
+  found = getD (numbers (r .cached)) k 0
 
-picked : (t : Bool) (l : ℕ) → servedBy (pick t (one l []) none) ≡ t
-picked true l = refl
-picked false l = refl
+  chosen : k < 4 → choose size z (cachedOf (numbers (r .cached))) ≡ one found (cachedOf (leftOut k (numbers (r .cached))))
+  chosen i = let l = length-numbers (r .cached) in choose-hit size z (numbers (r .cached)) k (cache-packed r ws (h .sound)) ek (omega (arith, l, four, i))
 
-module _ (r : Record) (ws : List ℕ) (z : ℕ) where
-  pub serves-none : r .cached .0 ≡ 0 → false ≡ cacheServes (seen r ws) z
-  unfolding cacheServes
-  serves-none h = sym (ap servedBy (unchosen (lengthAt base (seen r ws)) z (r .cached .0) h))
+  -- it is a cached chunk's
+  is-cached : k < 4 → Mem found (cachedOf (numbers (r .cached)))
+  is-cached i =
+      let ks = cachedOf (numbers (r .cached)) in
+      subst (Picked size z (cachedOf (numbers (r .cached)))) (chosen i) (choose-picked size z ks) .1
 
-  pub serves-short : (i n : ℕ) → (r .cached .0 ≡ 0 → ⊥) → i ≡ r .cached .0 - 6 → n ≡ lengthOf (at ws i) → n < z → false ≡ cacheServes (seen r ws) z
-  unfolding cacheServes
-  serves-short i n h ei en k =
-      let e : lengthAt base (seen r ws) (r .cached .0) ≡ n = sym (en ∙ ap (λ (j : ℕ). lengthOf (at ws j)) ei) in
-      let p : lengthAt base (seen r ws) (r .cached .0) < z = omega arith in
-      let w : serves (lengthAt base (seen r ws) (r .cached .0)) z ≡ false = rw (lt-leb _ _ p) refl in
-      sym (ap servedBy (chosen (lengthAt base (seen r ws)) z (r .cached .0) h) ∙ picked _ (r .cached .0) ∙ w)
-
-  pub serves-slack : (i n : ℕ) → (r .cached .0 ≡ 0 → ⊥) → i ≡ r .cached .0 - 6 → n ≡ lengthOf (at ws i) → z ≤ n → leb (n - z) 512 ≡ cacheServes (seen r ws) z
-  unfolding cacheServes
-  serves-slack i n h ei en k =
-      let e : lengthAt base (seen r ws) (r .cached .0) ≡ n = sym (en ∙ ap (λ (j : ℕ). lengthOf (at ws j)) ei) in
-      let w : serves (lengthAt base (seen r ws) (r .cached .0)) z ≡ leb n (z + 512) = rw (e, le-leb _ _ k) refl in
-      slack-same n z k ∙ sym (ap servedBy (chosen (lengthAt base (seen r ws)) z (r .cached .0) h) ∙ picked _ (r .cached .0) ∙ w)
-
-  -- what was chosen, from whether the cached chunk serves
-  chosen-yes : cacheServes (seen r ws) z ≡ true → choose (lengthAt base (seen r ws)) z (cachedOf (r .cached .0)) ≡ one (r .cached .0) []
-  unfolding cacheServes
-  chosen-yes h = go (ℕ-discrete (r .cached .0) 0)
-    where
-      size : ℕ → ℕ
-      size = lengthAt base (seen r ws)
-
-      some : (t : Bool) → servedBy (pick t (one (r .cached .0) []) none) ≡ true → pick t (one (r .cached .0) []) none ≡ one (r .cached .0) []
-      some true e = refl
-      some false e = absurd (let q : _≡_ {A = ℕ} 0 1 = cc in omega arith)
-
-      go : Dec (r .cached .0 ≡ 0) → choose (lengthAt base (seen r ws)) z (cachedOf (r .cached .0)) ≡ one (r .cached .0) []
-      go (yes e) = absurd (let w : false ≡ true = sym (ap servedBy (unchosen size z (r .cached .0) e)) ∙ h in let q : _≡_ {A = ℕ} 0 1 = cc in omega arith)
-      go (no n) = chosen size z (r .cached .0) n ∙ some (serves (size (r .cached .0)) z) (sym (ap servedBy (chosen size z (r .cached .0) n)) ∙ h)
-
-  chosen-no : cacheServes (seen r ws) z ≡ false → choose (lengthAt base (seen r ws)) z (cachedOf (r .cached .0)) ≡ none
-  unfolding cacheServes
-  chosen-no h = go (choose (lengthAt base (seen r ws)) z (cachedOf (r .cached .0))) h
-    where
-      go : (c : Chosen) → servedBy c ≡ false → c ≡ none
-      go none e = refl
-      go (one x ks) e = absurd (let q : _≡_ {A = ℕ} 0 1 = cc in omega arith)
+  -- its header's word, as the code finds it
+  word-of : (i : ℕ) → i ≡ getD (r .cached) k (record { 0 = 0 }) .0 - 6 → i ≡ found - 6
+  word-of i e = e ∙ ap (λ (x : ℕ). x - 6) (sym (numbers-at (r .cached) k))
 
   -- HANDED OUT FROM THE CACHE, whole, its payload emptied
-  pub served-cached : (q : Record) (ws1 : List ℕ) (b : Bool) (i n u : ℕ) (p : ByteOffset) → r .cached .0 < 65536 → b ≡ cacheServes (seen r ws) z → b ≡ true → i ≡ r .cached .0 - 6
-      → n ≡ lengthOf (at ws i) → ws1 ≡ emptiedIn ws i n → u ≡ r .«in_use» + n → p .0 ≡ heldName payloads i → q ≡ withCached r u (record { 0 = 0 })
-      → outcome (Done p 0) (seen q ws1) ≡ serve base 1 soundAt (seen r ws) z
+  pub served-cached : (q : Record) (ws1 : List ℕ) (c : List Link) (i n u : ℕ) (p : ByteOffset) → k < 4 → i ≡ getD (r .cached) k (record { 0 = 0 }) .0 - 6
+      → n ≡ lengthOf (at ws i) → ws1 ≡ emptiedIn ws i n → u ≡ r .«in_use» + n → p .0 ≡ heldName payloads i
+      → numbers c ≡ leftOut (min k 3) (numbers (r .cached)) → q ≡ withCached r u c → outcome (Done p 0) (seen q ws1) ≡ serve base (seen r ws) z
   unfolding serve fromCache
-  served-cached q ws1 b i n u p hl eb h ei en ec eu ep eq =
-      let v : p .0 ≡ byteOf (r .cached .0) + 4 = payload-place (r .cached .0) i (p .0) ei (omega arith) ep in
-      let k : n ≡ lengthAt base (seen r ws) (r .cached .0) = en ∙ ap (λ (j : ℕ). lengthOf (at ws j)) ei in
-      let state : seen q ws1 ≡ emptied base (seen q ws) (r .cached .0 - 6) (lengthAt base (seen r ws) (r .cached .0)) =
-      ap (λ (vs : List ℕ). seen q vs) ec ∙ emptied-seen q ws i n ∙ ap (λ (j : ℕ). emptied base (seen q ws) i j) k
-      ∙ ap (λ (j : ℕ). emptied base (seen q ws) j (lengthAt base (seen r ws) (r .cached .0))) ei in
-      rw (chosen-yes (sym eb ∙ h), v, state, eq, eu, k) refl
+  served-cached q ws1 c i n u p hk ei en ec eu ep eo eq =
+      let w : i ≡ found - 6 = word-of i ei in
+      let in-heap = cached-fitsᵇ (ours 4) (seen r ws) (h .sound) found (is-cached hk) .inside in
+      let words = figures-fitᵇ (ours 4) (seen r ws) (h .sound) .accepted in
+      let hi : i < 65536 = omega (arith, w, in-heap, words) in
+      let v : p .0 ≡ byteOf found + 4 = payload-place found i (p .0) w hi ep in
+      let m : n ≡ size found = en ∙ ap (λ (j : ℕ). lengthOf (at ws j)) w in
+      let least : min k 3 ≡ k = omega (arith, hk) in
+      let others : cachedOf (numbers c) ≡ cachedOf (leftOut k (numbers (r .cached))) =
+      ap cachedOf (eo ∙ ap (λ (j : ℕ). leftOut j (numbers (r .cached))) least) in
+      let state : seen q ws1 ≡ emptied base (seen q ws) (found - 6) (size found) =
+      ap (λ (vs : List ℕ). seen q vs) ec ∙ emptied-seen q ws i n ∙ ap (λ (j : ℕ). emptied base (seen q ws) i j) m
+      ∙ ap (λ (j : ℕ). emptied base (seen q ws) j (size found)) w in
+      rw (chosen hk, v, state, eq, eu, m, others) refl
 
   -- and not: the lists are searched
-  pub served-listed : (o : Outcome State) (b : Bool) → b ≡ cacheServes (seen r ws) z → b ≡ false
-      → o ≡ fromList base 1 soundAt (seen r ws) z (firstFit base 1 soundAt (seen r ws) z) → o ≡ serve base 1 soundAt (seen r ws) z
+  pub served-listed : (o : Outcome State) → 4 ≤ k → o ≡ fromList base (seen r ws) z (firstFit base (seen r ws) z) → o ≡ serve base (seen r ws) z
   unfolding serve fromCache
-  served-listed o b eb h eo = rw (chosen-no (sym eb ∙ h)) eo
+  served-listed o i eo =
+      let l = length-numbers (r .cached) in
+      rw (choose-miss size z (numbers (r .cached)) k (cache-packed r ws (h .sound)) ek (omega (arith, l, four, i))) eo
 
   -- in use and its length are both committed: their sum stays in range
-  pub served-safe : (b : Bool) (i n : ℕ) → Served (seen r ws) z → r .committed < 2 ^ 32 → b ≡ cacheServes (seen r ws) z → b ≡ true → i ≡ r .cached .0 - 6
-      → n ≡ lengthOf (at ws i) → r .«in_use» + n < 2 ^ 32
-  served-safe b i n ok hc eb h ei en =
-      let k : r .cached .0 ≡ 0 → ⊥ = λ e. false≢true (serves-none e ∙ sym eb ∙ h) in
-      let m : Mem (r .cached .0) (cachedOf (r .cached .0)) = rw (ne-eqb _ _ k) (List·Memᴰ·head refl) in
-      let v : n ≡ lengthAt base (seen r ws) (r .cached .0) = en ∙ ap (λ (j : ℕ). lengthOf (at ws j)) ei in
-      let c = cached-heldᵇ ours (seen r ws) (ok .sound) (r .cached .0) m in
-      omega arith
+  pub served-safe : (i n : ℕ) → k < 4 → r .committed < 2 ^ 32 → i ≡ getD (r .cached) k (record { 0 = 0 }) .0 - 6 → n ≡ lengthOf (at ws i)
+      → r .«in_use» + n < 2 ^ 32
+  served-safe i n hk hc ei en =
+      let v : n ≡ size found = en ∙ ap (λ (j : ℕ). lengthOf (at ws j)) (word-of i ei) in
+      let c = cached-heldᵇ (ours 4) (seen r ws) (h .sound) found (is-cached hk) in
+      omega (arith, c, v, hc)
 
 -- ---- THE LISTS
 
@@ -217,29 +210,29 @@ figures-kept r a ws ws1 w n z e = ap (λ (s : State). s .rest) e ∙ take-rest (
 
 module _ (r : Record) (ws : List ℕ) (z : ℕ) (h : Served (seen r ws) z) where
   -- what the code's walk finds the rules' search finds
-  walks : (f : Found) → f ≡ walkedFit base (seen r ws) z → f ≡ firstFit base 1 soundAt (seen r ws) z
-  walks f e = e ∙ walked-fitᵇ ours (seen r ws) (h .sound) soundAt z
+  walks : (f : Found) → f ≡ walkedFit base (seen r ws) z → f ≡ firstFit base (seen r ws) z
+  walks f e = e ∙ walked-fitᵇ (ours 4) (seen r ws) (h .sound) z
 
   pub found-safe : (x c : ℕ) → rule.at x c ≡ walkedFit base (seen r ws) z → FoundFits base (seen r ws) z x c
-  found-safe x c e = found-fitsᵇ ours (seen r ws) (h .sound) soundAt z x c (sym (walks (rule.at x c) e))
+  found-safe x c e = found-fitsᵇ (ours 4) (seen r ws) (h .sound) z x c (sym (walks (rule.at x c) e))
 
   pub figures-safe : FiguresFit base (seen r ws) 65529
-  figures-safe = figures-fitᵇ ours (seen r ws) (h .sound)
+  figures-safe = figures-fitᵇ (ours 4) (seen r ws) (h .sound)
 
   pub listed-lost : lost ≡ walkedFit base (seen r ws) z
-      → outcome Damaged (seen r ws) ≡ fromList base 1 soundAt (seen r ws) z (firstFit base 1 soundAt (seen r ws) z)
-  listed-lost e = absurd (never-lostᵇ ours (seen r ws) (h .sound) soundAt z (sym (walks lost e)))
+      → outcome Damaged (seen r ws) ≡ fromList base (seen r ws) z (firstFit base (seen r ws) z)
+  listed-lost e = absurd (never-lostᵇ (ours 4) (seen r ws) (h .sound) z (sym (walks lost e)))
 
   pub nowhere-safe : (c : ℕ) → nowhere c ≡ walkedFit base (seen r ws) z → c < 65536
   nowhere-safe c e =
-      let q = nowhere-shortᵇ ours (seen r ws) (h .sound) soundAt z c (sym (walks (nowhere c) e)) in
+      let q = nowhere-shortᵇ (ours 4) (seen r ws) (h .sound) z c (sym (walks (nowhere c) e)) in
       let f = figures-safe .accepted in
       omega arith
 
   pub listed-nowhere : (c d : ℕ) → d ≡ c → nowhere c ≡ walkedFit base (seen r ws) z
-      → outcome (NoFit d) (seen r ws) ≡ fromList base 1 soundAt (seen r ws) z (firstFit base 1 soundAt (seen r ws) z)
+      → outcome (NoFit d) (seen r ws) ≡ fromList base (seen r ws) z (firstFit base (seen r ws) z)
   unfolding fromList
-  listed-nowhere c d ed e = subst (λ (f : Found). outcome (NoFit d) (seen r ws) ≡ fromList base 1 soundAt (seen r ws) z f) (walks (nowhere c) e) (rw ed refl)
+  listed-nowhere c d ed e = subst (λ (f : Found). outcome (NoFit d) (seen r ws) ≡ fromList base (seen r ws) z f) (walks (nowhere c) e) (rw ed refl)
 
   -- TAKEN FROM A LIST: the bounds that the steps ask for
   pub take-safe : (x c i n : ℕ) → rule.at x c ≡ walkedFit base (seen r ws) z → i ≡ x - 6 → n ≡ lengthOf (at ws i) → (6 ≤ x) × (x + n / 4 < 65536) × (c < 65536)
@@ -282,7 +275,7 @@ module _ (r : Record) (ws : List ℕ) (z : ℕ) (h : Served (seen r ws) z) where
   pub listed-hit : (a q : Record) (ws1 ws2 : List ℕ) (x c i n m j e d : ℕ) (p : ByteOffset)
       → rule.at x c ≡ walkedFit base (seen r ws) z → i ≡ x - 6 → n ≡ lengthOf (at ws i) → m ≡ portion n z
       → seen a ws1 ≡ takeChunk base (seen r ws) (x - 6) n z → ws2 ≡ emptiedIn ws1 i m → j ≡ rightOf i m % 2 ^ 64 → e ≡ heldName offsets j → q ≡ countedIn a m e → p .0 ≡ heldName payloads i → d ≡ c
-      → outcome (Done p d) (seen q ws2) ≡ fromList base 1 soundAt (seen r ws) z (firstFit base 1 soundAt (seen r ws) z)
+      → outcome (Done p d) (seen q ws2) ≡ fromList base (seen r ws) z (firstFit base (seen r ws) z)
   unfolding fromList
   listed-hit a q ws1 ws2 x c i n m j e d p ef ei en em ea ec ej ee eq ep ed =
       let g = found-safe x c ef in
@@ -301,111 +294,153 @@ module _ (r : Record) (ws : List ℕ) (z : ℕ) (h : Served (seen r ws) z) where
       let empty : seen q ws2 ≡ emptied base (base .setRest (takeChunk base (seen r ws) (x - 6) n z) (counted (figuresOf r) m (byteOf x + m))) (x - 6) m =
       ap (λ (vs : List ℕ). seen q vs) ec ∙ emptied-seen q ws1 i m ∙ ap (λ (s : State). emptied base s i m) state
       ∙ ap (λ (k : ℕ). emptied base (base .setRest (takeChunk base (seen r ws) (x - 6) n z) (counted (figuresOf r) m (byteOf x + m))) k m) ei in
-      subst (λ (k : Found). outcome (Done p d) (seen q ws2) ≡ fromList base 1 soundAt (seen r ws) z k) (walks (rule.at x c) ef)
+      subst (λ (k : Found). outcome (Done p d) (seen q ws2) ≡ fromList base (seen r ws) z k) (walks (rule.at x c) ef)
       (rw (empty, pay, ed, em, v) refl)
 
 -- ---- WHAT IS LIVE
 
 module _ (r : Record) (ws : List ℕ) (p : ℕ) where
-  pub live-low : p < 4 → 0 ≡ live base 1 soundAt (seen r ws) p
+  pub live-low : p < 4 → 0 ≡ live base (seen r ws) p
   unfolding live
   live-low h = rw (lt-leb _ _ h) refl
 
-  pub live-cached : (l : ℕ) → 4 ≤ p → l ≡ r .cached .0 → (p - 4) / 4 + 6 ≡ l → 0 ≡ live base 1 soundAt (seen r ws) p
-  unfolding live listed
-  live-cached l h el e =
-      let n : r .cached .0 ≡ 0 → ⊥ = λ q. omega arith in
-      let e′ : (p - 4) / 4 + 6 ≡ r .cached .0 = e ∙ el in
-      rw (le-leb _ _ h, ne-eqb _ _ n, eq-eqb _ _ e′) refl
+  -- its link stands in a place of the cache
+  pub live-cached : (b : Bool) → 4 ≤ p → b ≡ listed ((p - 4) / 4 + 6) (numbers (r .cached)) → b ≡ true → 0 ≡ live base (seen r ws) p
+  unfolding live
+  live-cached b h e t =
+      let c : listed ((p - 4) / 4 + 6) (cachedOf (numbers (r .cached))) ≡ true = listed-cached ((p - 4) / 4 + 6) (numbers (r .cached)) (λ q. omega arith) ∙ sym e ∙ t in
+      rw (le-leb _ _ h, c) refl
 
-  pub live-other : (l v : ℕ) → 4 ≤ p → l ≡ r .cached .0 → ((p - 4) / 4 + 6 ≡ l → ⊥) → v ≡ usedWalk (at ws) (length ws) 0 (p - 4) → v ≡ live base 1 soundAt (seen r ws) p
-  unfolding live listed
-  live-other l v h el d ev = go (ℕ-discrete (r .cached .0) 0)
-    where
-      d′ : (p - 4) / 4 + 6 ≡ r .cached .0 → ⊥
-      d′ q = d (q ∙ sym el)
-
-      there : v ≡ usedAt (tile (at ws) (length ws) 0) (p - 4)
-      there = ev ∙ used-tile (at ws) (length ws) 0 (p - 4)
-
-      go : Dec (r .cached .0 ≡ 0) → v ≡ live base 1 soundAt (seen r ws) p
-      go (yes z) = rw (le-leb _ _ h, eq-eqb _ _ z) there
-      go (no n) = rw (le-leb _ _ h, ne-eqb _ _ n, ne-eqb _ _ d′) there
+  -- or in none
+  pub live-other : (b : Bool) (v : ℕ) → 4 ≤ p → b ≡ listed ((p - 4) / 4 + 6) (numbers (r .cached)) → b ≡ false → v ≡ usedWalk (at ws) (length ws) 0 (p - 4)
+      → v ≡ live base (seen r ws) p
+  unfolding live
+  live-other b v h e t ev =
+      let c : listed ((p - 4) / 4 + 6) (cachedOf (numbers (r .cached))) ≡ false = listed-cached ((p - 4) / 4 + 6) (numbers (r .cached)) (λ q. omega arith) ∙ sym e ∙ t in
+      rw (le-leb _ _ h, c) (ev ∙ used-tile (at ws) (length ws) 0 (p - 4))
 
 -- ---- TAKEN BACK
 
-module _ (r : Record) (ws : List ℕ) (u : ℕ) (l : Link) where
-  pub settled-first : (q : Record) → r .cached .0 ≡ 0 → (l .0 ≡ 0 → ⊥) → q ≡ withCached r u l → seen q ws ≡ settled base 1 soundAt (seen r ws) u (cachedOf (r .cached .0) ++ l .0 ∷ [])
+-- the newest stays beside the others where there are places enough; else the oldest is released
+module _ (places : ℕ) (s : State) (u : ℕ) where
+  settled-keep : (ks : List ℕ) (l : ℕ) → length (ks ++ l ∷ []) ≤ places → settled base places s u (ks ++ l ∷ []) ≡ base .setRest s (rules.withCached (s .rest) u (ks ++ l ∷ []))
   unfolding settled
-  settled-first q h n eq = rw (eq, eq-eqb _ _ h, ne-eqb _ _ n) refl
+  settled-keep [] l h = rw (le-leb _ _ h)
+  settled-keep (k ∷ ks) l h = rw (le-leb _ _ h)
 
-  pub settled-next : (a q : Record) (ws1 : List ℕ) (i n : ℕ) → (r .cached .0 ≡ 0 → ⊥) → (l .0 ≡ 0 → ⊥) → i ≡ r .cached .0 - 6 → n ≡ lengthOf (at ws i)
-      → seen a ws1 ≡ releaseChunk base (seen r ws) (r .cached .0 - 6) n → q ≡ countedOut a u n l
-      → seen q ws1 ≡ settled base 1 soundAt (seen r ws) u (cachedOf (r .cached .0) ++ l .0 ∷ [])
+  settled-let : (k : ℕ) (ks : List ℕ) → places < length (k ∷ ks)
+      → settled base places s u (k ∷ ks) ≡ base .setRest (releaseChunk base s (k - 6) (lengthAt base s k)) (released (s .rest) u ks (lengthAt base s k))
   unfolding settled
-  settled-next a q ws1 i n h k ei en ea eq =
-      let v : n ≡ lengthAt base (seen r ws) (r .cached .0) = en ∙ ap (λ (j : ℕ). lengthOf (at ws j)) ei in
-      let kept : figuresOf a ≡ figuresOf r = ap (λ (s : State). s .rest) ea ∙ release-rest (seen r ws) (r .cached .0 - 6) n in
-      let state : seen q ws1 ≡ base .setRest (releaseChunk base (seen r ws) (r .cached .0 - 6) n) (released (figuresOf r) u (l .0 ∷ []) n) =
-      rw (eq, ne-eqb _ _ k) (ap (λ (f : Figures). base .setRest (seen a ws1) (released f u (l .0 ∷ []) n)) kept ∙ ap (λ (s : State). base .setRest s (released (figuresOf r) u (l .0 ∷ []) n)) ea) in
-      state ∙ rw (ne-eqb _ _ h, ← v) refl
+  settled-let k ks h = rw (lt-leb _ _ h)
 
-  -- the bounds that releasing the cached chunk asks for
-  pub settle-safe : (i n : ℕ) → soundAt (seen r ws) ≡ true → (r .cached .0 ≡ 0 → ⊥) → i ≡ r .cached .0 - 6 → n ≡ lengthOf (at ws i) → Releasable ws (r .cached .0) n
-  unfolding leftFree rightFree leftFreeIn rightFreeIn
-  settle-safe i n ok h ei en =
-      let m : Mem (r .cached .0) (cachedOf (r .cached .0)) = rw (ne-eqb _ _ h) (List·Memᴰ·head refl) in
-      let v : n ≡ lengthAt base (seen r ws) (r .cached .0) = en ∙ ap (λ (j : ℕ). lengthOf (at ws j)) ei in
-      let c = cached-fitsᵇ ours (seen r ws) ok (r .cached .0) m in
-      let f = release-fitsᵇ ours (seen r ws) ok (r .cached .0) m in
-      let a = figures-fitᵇ ours (seen r ws) ok .accepted in
-      rw v (record { chunk = c .named; left = f .left; right = let k = f .right in let g = c .named in omega arith })
+-- so many places are used
+module _ (places : ℕ) (r : Record) (ws : List ℕ) (u : ℕ) (l : Link) (k : ℕ) (ok : soundAt 4 (seen r ws) ≡ true) (ek : k ≡ usedPlaces (numbers (r .cached))) where
+  -- the cached chunks, and how many they are
+  abbrev kept : List ℕ
+  kept = cachedOf (numbers (r .cached))
+
+  many : length kept ≡ k
+  many = length-cached (numbers (r .cached)) (cache-packed r ws ok) ∙ sym ek
+
+  -- A PLACE IS FREE
+  pub settled-first : (q : Record) (c : List Link) → FourPlaces r → places ≤ 4 → k < places → 6 ≤ l .0 → numbers c ≡ set (numbers (r .cached)) k (l .0)
+      → q ≡ withCached r u c → seen q ws ≡ settled base places (seen r ws) u (kept ++ l .0 ∷ [])
+  settled-first q c four few hk named ec eq =
+      let more : length (kept ++ l .0 ∷ []) ≡ length kept + 1 = length-append kept (l .0 ∷ []) in
+      let n = length-numbers (r .cached) in
+      let room : usedPlaces (numbers (r .cached)) < length (numbers (r .cached)) = omega (arith, n, four, few, hk, ek) in
+      let new : cachedOf (numbers c) ≡ kept ++ l .0 ∷ [] =
+      ap cachedOf (ec ∙ ap (λ (j : ℕ). set (numbers (r .cached)) j (l .0)) ek) ∙ set-last (numbers (r .cached)) (l .0) (cache-packed r ws ok) (λ z. omega (arith, named, z)) room in
+      ap (λ (t : Record). seen t ws) eq ∙ ap (λ (ks : List ℕ). base .setRest (seen r ws) (rules.withCached (figuresOf r) u ks)) new
+      ∙ sym (settled-keep places (seen r ws) u kept (l .0) (omega (arith, more, many, hk)))
+
+  -- ALL ARE USED: the oldest one, in the first place
+  abbrev oldest : ℕ
+  oldest = getD (r .cached) 0 (record { 0 = 0 }) .0
+
+  module _ (full : places ≤ k) (some : 0 < places) where
+    used : 0 < usedPlaces (numbers (r .cached))
+    used = omega (arith, full, some, ek)
+
+    first : kept ≡ oldest ∷ drop 1 kept
+    first = oldest-cached (numbers (r .cached)) used ∙ ap (λ (x : ℕ). x ∷ drop 1 kept) (numbers-at (r .cached) 0)
+
+    pub settled-next : (a q : Record) (ws1 : List ℕ) (c d : List Link) (i n j : ℕ) → 6 ≤ l .0 → i ≡ oldest - 6 → n ≡ lengthOf (at ws i)
+        → seen a ws1 ≡ releaseChunk base (seen r ws) (oldest - 6) n → numbers d ≡ leftOut 0 (numbers (r .cached)) → j ≡ k - 1
+        → numbers c ≡ set (numbers d) j (l .0) → q ≡ countedOut a u n c → seen q ws1 ≡ settled base places (seen r ws) u (kept ++ l .0 ∷ [])
+    settled-next a q ws1 c d i n j named ei en ea ed ej ec eq =
+        let ks = drop 1 kept ++ l .0 ∷ [] in
+        let v : n ≡ lengthAt base (seen r ws) oldest = en ∙ ap (λ (m : ℕ). lengthOf (at ws m)) ei in
+        let last : j ≡ usedPlaces (numbers (r .cached)) - 1 = omega (arith, ej, ek) in
+        let new : cachedOf (numbers c) ≡ drop 1 kept ++ l .0 ∷ [] =
+        ap cachedOf (ec ∙ ap (λ (ys : List ℕ). set ys j (l .0)) ed ∙ ap (λ (m : ℕ). set (leftOut 0 (numbers (r .cached))) m (l .0)) last)
+        ∙ turned (numbers (r .cached)) (l .0) (cache-packed r ws ok) (λ z. omega (arith, named, z)) used in
+        let figures : figuresOf a ≡ figuresOf r = ap (λ (s : State). s .rest) ea ∙ release-rest (seen r ws) (oldest - 6) n in
+        let state : seen q ws1 ≡ base .setRest (releaseChunk base (seen r ws) (oldest - 6) n) (released (figuresOf r) u (drop 1 kept ++ l .0 ∷ []) n) =
+        rw (eq, new) (ap (λ (f : Figures). base .setRest (seen a ws1) (released f u ks n)) figures ∙ ap (λ (s : State). base .setRest s (released (figuresOf r) u ks n)) ea) in
+        let long = length-append (drop 1 kept) (l .0 ∷ []) in
+        let count : length kept ≡ length (oldest ∷ drop 1 kept) = ap length first in
+        let over : places < length (oldest ∷ (drop 1 kept ++ l .0 ∷ [])) = omega (arith, long, count, many, full) in
+        state ∙ ap (λ (m : ℕ). base .setRest (releaseChunk base (seen r ws) (oldest - 6) m) (released (figuresOf r) u ks m)) v
+        ∙ sym (settled-let places (seen r ws) u oldest ks over) ∙ ap (λ (xs : List ℕ). settled base places (seen r ws) u (xs ++ l .0 ∷ [])) (sym first)
+
+    -- the bounds that releasing the oldest one asks for
+    pub settle-safe : (i n : ℕ) → i ≡ oldest - 6 → n ≡ lengthOf (at ws i) → Releasable ws oldest n
+    unfolding leftFree rightFree leftFreeIn rightFreeIn
+    settle-safe i n ei en =
+        let m : Mem oldest (cachedOf (numbers (r .cached))) = subst (λ (ks : List ℕ). Mem oldest ks) (sym first) (List·Memᴰ·head refl) in
+        let v : n ≡ lengthAt base (seen r ws) oldest = en ∙ ap (λ (j : ℕ). lengthOf (at ws j)) ei in
+        let c = cached-fitsᵇ (ours 4) (seen r ws) ok oldest m in
+        let f = release-fitsᵇ (ours 4) (seen r ws) ok oldest m in
+        let a = figures-fitᵇ (ours 4) (seen r ws) ok .accepted in
+        rw v (record { chunk = c .named; left = f .left; right = let k = f .right in let g = c .named in omega arith })
 
 -- ---- THE TESTS, in their order
 
-module _ (r : Record) (ws : List ℕ) where
-  pub hand-zero : (size : ℕ) → size ≡ 0 → outcome ZeroSize (seen r ws) ≡ hand base 65529 1 (seen r ws) size
+module _ (places : ℕ) (r : Record) (ws : List ℕ) where
+  pub hand-zero : (size : ℕ) → size ≡ 0 → outcome ZeroSize (seen r ws) ≡ hand base 65529 places (seen r ws) size
   unfolding handOut
   hand-zero size h = rw (eq-eqb _ _ h) refl
 
-  pub hand-large : (size : ℕ) → (size ≡ 0 → ⊥) → 4294967284 < size → outcome TooLarge (seen r ws) ≡ hand base 65529 1 (seen r ws) size
+  pub hand-large : (size : ℕ) → (size ≡ 0 → ⊥) → 4294967284 < size → outcome TooLarge (seen r ws) ≡ hand base 65529 places (seen r ws) size
   unfolding handOut
   hand-large size h k = rw (ne-eqb _ _ h, lt-ltb _ _ k) refl
 
-  pub hand-damaged : (size : ℕ) (b : Bool) → (size ≡ 0 → ⊥) → size ≤ 4294967284 → b ≡ soundAt (seen r ws) → b ≡ false → outcome Damaged (seen r ws) ≡ hand base 65529 1 (seen r ws) size
+  pub hand-damaged : (size : ℕ) (b : Bool) → (size ≡ 0 → ⊥) → size ≤ 4294967284 → b ≡ soundAt places (seen r ws) → b ≡ false → outcome Damaged (seen r ws) ≡ hand base 65529 places (seen r ws) size
   unfolding handOut
   hand-damaged size b h k e f = rw (ne-eqb _ _ h, le-ltb _ _ k, sym e ∙ f) refl
 
-  pub hand-served : (size z v : ℕ) (b : Bool) (o : Outcome State) → (size ≡ 0 → ⊥) → size ≤ 4294967284 → b ≡ soundAt (seen r ws) → b ≡ true → v ≡ roundedOf size → z ≡ v
-      → o ≡ serve base 1 soundAt (seen r ws) z → o ≡ hand base 65529 1 (seen r ws) size
+  pub hand-served : (size z v : ℕ) (b : Bool) (o : Outcome State) → (size ≡ 0 → ⊥) → size ≤ 4294967284 → b ≡ soundAt places (seen r ws) → b ≡ true → v ≡ roundedOf size → z ≡ v
+      → o ≡ serve base (seen r ws) z → o ≡ hand base 65529 places (seen r ws) size
   unfolding handOut
   hand-served size z v b o h k e f ev ez eo = rw (ne-eqb _ _ h, le-ltb _ _ k, sym e ∙ f, ← ev, ← ez) eo
 
-  pub rounded-served : (size v : ℕ) (b : Bool) → b ≡ soundAt (seen r ws) → b ≡ true → v ≡ roundedOf size → Served (seen r ws) v
-  rounded-served size v b e f ev = record { sound = sym e ∙ f; least = omega arith; eights = ap (λ (k : ℕ). k % 8) ev ∙ eights-of }
-    where
-      eights-of : roundedOf size % 8 ≡ 0
-      eights-of = omega arith
-
-  pub back-damaged : (p : ℕ) (b : Bool) → b ≡ soundAt (seen r ws) → b ≡ false → outcome Damaged (seen r ws) ≡ back base 65529 1 (seen r ws) p
+  pub back-damaged : (p : ℕ) (b : Bool) → b ≡ soundAt places (seen r ws) → b ≡ false → outcome Damaged (seen r ws) ≡ back base 65529 places (seen r ws) p
   unfolding takeBack
   back-damaged p b e f = rw (sym e ∙ f) refl
 
-  pub back-dead : (p n : ℕ) (b : Bool) → b ≡ soundAt (seen r ws) → b ≡ true → n ≡ live base 1 soundAt (seen r ws) p → n ≡ 0 → outcome NotLive (seen r ws) ≡ back base 65529 1 (seen r ws) p
+  pub back-dead : (p n : ℕ) (b : Bool) → b ≡ soundAt places (seen r ws) → b ≡ true → n ≡ live base (seen r ws) p → n ≡ 0 → outcome NotLive (seen r ws) ≡ back base 65529 places (seen r ws) p
   unfolding takeBack
   back-dead p n b e f en z = rw (sym e ∙ f, eq-eqb _ _ (sym en ∙ z)) refl
 
-  pub live-name : (p n i l : ℕ) (b : Bool) → b ≡ soundAt (seen r ws) → b ≡ true → n ≡ live base 1 soundAt (seen r ws) p → (n ≡ 0 → ⊥) → i ≡ payloads .word p → l ≡ heldName links i → l ≡ nameOf (p - 4)
+  pub live-name : (p n i l : ℕ) (b : Bool) → b ≡ soundAt places (seen r ws) → b ≡ true → n ≡ live base (seen r ws) p → (n ≡ 0 → ⊥) → i ≡ payloads .word p → l ≡ heldName links i → l ≡ nameOf (p - 4)
   live-name p n i l b e f en d ei el =
-      let q = live-fitsᵇ ours (seen r ws) (sym e ∙ f) soundAt p (λ k. d (en ∙ k)) in
-      let a = figures-fitᵇ ours (seen r ws) (sym e ∙ f) .accepted in
+      let q = live-fitsᵇ (ours places) (seen r ws) (sym e ∙ f) p (λ k. d (en ∙ k)) in
+      let a = figures-fitᵇ (ours places) (seen r ws) (sym e ∙ f) .accepted in
       let u = q .inside in
       omega arith
 
-  pub back-done : (q : Record) (ws1 : List ℕ) (p n u l : ℕ) (b : Bool) → b ≡ soundAt (seen r ws) → b ≡ true → n ≡ live base 1 soundAt (seen r ws) p → (n ≡ 0 → ⊥) → u ≡ r .«in_use» - n → l ≡ nameOf (p - 4)
-      → seen q ws1 ≡ settled base 1 soundAt (seen r ws) u (cachedOf (r .cached .0) ++ l ∷ []) → says 0 0 0 (seen q ws1) ≡ back base 65529 1 (seen r ws) p
+  pub back-done : (q : Record) (ws1 : List ℕ) (p n u l m : ℕ) (b : Bool) → m ≡ places → b ≡ soundAt places (seen r ws) → b ≡ true → n ≡ live base (seen r ws) p → (n ≡ 0 → ⊥) → u ≡ r .«in_use» - n → l ≡ nameOf (p - 4)
+      → seen q ws1 ≡ settled base m (seen r ws) u (cachedOf (numbers (r .cached)) ++ l ∷ []) → says 0 0 0 (seen q ws1) ≡ back base 65529 places (seen r ws) p
   unfolding takeBack
-  back-done q ws1 p n u l b e f en d eu el eq =
-      let d′ : live base 1 soundAt (seen r ws) p ≡ 0 → ⊥ = λ k. d (en ∙ k) in
-      let h : u ≡ r .«in_use» - live base 1 soundAt (seen r ws) p = eu ∙ ap (λ (k : ℕ). r .«in_use» - k) en in
-      rw (sym e ∙ f, ne-eqb _ _ d′) (ap (says 0 0 0) (eq ∙ rw (el, h) refl))
+  back-done q ws1 p n u l m b em e f en d eu el eq =
+      let d′ : live base (seen r ws) p ≡ 0 → ⊥ = λ k. d (en ∙ k) in
+      let h : u ≡ r .«in_use» - live base (seen r ws) p = eu ∙ ap (λ (k : ℕ). r .«in_use» - k) en in
+      rw (sym e ∙ f, ne-eqb _ _ d′) (ap (says 0 0 0) (eq ∙ rw (em, el, h) refl))
+
+-- what a kind's audit passed may be served
+pub rounded-served : (k : Kind) (r : Record) (ws : List ℕ) (size v : ℕ) (b : Bool) → b ≡ soundAt (placesOf k) (seen r ws) → b ≡ true → v ≡ roundedOf size → Served (seen r ws) v
+rounded-served k r ws size v b e f ev = record { sound = sound-four k (seen r ws) b e f; least = omega arith; eights = ap (λ (k : ℕ). k % 8) ev ∙ eights-of }
+  where
+    eights-of : roundedOf size % 8 ≡ 0
+    eights-of = omega arith

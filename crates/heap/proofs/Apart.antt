@@ -2,24 +2,20 @@
 --     seen-same       record and words
 --     outcome-same    answer, record and words
 use mathlib.Core.Path.{_≡_, refl, sym, ap, _∙_}
-use mathlib.Core.Bool.{Bool, true, false}
 use mathlib.Core.List.{List, [], _∷_}
 use Prim.Native.Nat.{ℕ, zero, suc}
-use native.Mathlib.Omega.{arith}
-use native.Mathlib.Decide.{ℕ-discrete}
-use borrow.Author.Tests.{eq-eqb, ne-eqb}
-use lib.Dec.{eqb}
+use lib.ListN.{length}
 use Rattle.words.specs.declared.names.Link.{Link}
-use Rattle.words.specs.Choice.{pick}
 use Rattle.words.specs.Numbers.{numbers}
-use Rattle.audit.specs.Shown.{cachedOf}
+use Rattle.words.proofs.Laws.Numbers.{length-numbers}
+use Rattle.cache.proofs.Laws.{cached-back}
 use Rattle.rules.specs.Rules.{Figures, Outcome}
 use Rattle.rules.specs.Making.{State}
 use Rattle.heap.specs.declared.record.Record.{Record}
 use Rattle.heap.specs.declared.calls.Answer.{Answer}
 use Rattle.heap.specs.declared.calls.Answer.the-variants.{Done, ZeroSize, TooLarge, NoFit, NotLive, Damaged, BadLength}
 use Rattle.heap.specs.declared.calls.Out.{Out}
-use Rattle.heap.specs.Seen.{seen}
+use Rattle.heap.specs.Seen.{seen, FourPlaces}
 use Rattle.heap.specs.Answer.{number, value, compared, outcome}
 
 -- an array of links is known by its numbers
@@ -34,21 +30,9 @@ links-back (l ∷ ls) = ap (λ (t : List Link). l ∷ t) (links-back ls)
 pub numbers-same : (ls ks : List Link) → numbers ls ≡ numbers ks → ls ≡ ks
 numbers-same ls ks e = sym (links-back ls) ∙ ap links-of e ∙ links-back ks
 
--- the cached link is known by the list of cached chunks
-abbrev link-of : List ℕ → ℕ
-link-of [] = 0
-link-of (l ∷ ls) = l
-
-link-back : (l : ℕ) → link-of (cachedOf l) ≡ l
-link-back l = go (ℕ-discrete l 0)
-  where
-    go : Dec (l ≡ 0) → link-of (cachedOf l) ≡ l
-    go (yes e) = rw (eq-eqb l 0 e) (sym e)
-    go (no n) = rw (ne-eqb l 0 n) refl
-
--- record and words are known by what is seen of them
-pub seen-same : (r q : Record) (ws vs : List ℕ) → seen r ws ≡ seen q vs → (r ≡ q) × (ws ≡ vs)
-seen-same r q ws vs e = (same, ap (λ (s : State). s .words) e)
+-- record and words are known by what is seen of them; the cache's places too, since there are four of them
+pub seen-same : (r q : Record) (ws vs : List ℕ) → FourPlaces r → FourPlaces q → seen r ws ≡ seen q vs → (r ≡ q) × (ws ≡ vs)
+seen-same r q ws vs fr fq e = (same, ap (λ (s : State). s .words) e)
   where
     prev : r .prev ≡ q .prev
     prev = numbers-same (r .prev) (q .prev) (ap (λ (s : State). s .prevs) e)
@@ -56,8 +40,11 @@ seen-same r q ws vs e = (same, ap (λ (s : State). s .words) e)
     next : r .next ≡ q .next
     next = numbers-same (r .next) (q .next) (ap (λ (s : State). s .nexts) e)
 
-    cached : r .cached .0 ≡ q .cached .0
-    cached = sym (link-back (r .cached .0)) ∙ ap (λ (s : State). link-of (s .rest .cached)) e ∙ link-back (q .cached .0)
+    long : length (numbers (r .cached)) ≡ length (numbers (q .cached))
+    long = length-numbers (r .cached) ∙ fr ∙ sym (length-numbers (q .cached) ∙ fq)
+
+    cached : r .cached ≡ q .cached
+    cached = numbers-same (r .cached) (q .cached) (cached-back (numbers (r .cached)) (numbers (q .cached)) long (ap (λ (s : State). s .rest .cached) e))
 
     same : r ≡ q
     same =
@@ -69,7 +56,7 @@ seen-same r q ws vs e = (same, ap (λ (s : State). s .words) e)
           committed = e i .rest .committed;
           peak = e i .rest .peak;
           high = e i .rest .high;
-          cached = record { 0 = cached i };
+          cached = cached i;
           fresh = e i .rest .flag;
         }
 
@@ -93,11 +80,12 @@ answer-back Damaged = refl
 answer-back BadLength = refl
 
 -- answer, record and words are known by the outcome
-pub outcome-same : (o p : Out) (ws vs : List ℕ) → outcome (o .answer) (seen (o .rec) ws) ≡ outcome (p .answer) (seen (p .rec) vs) → (o ≡ p) × (ws ≡ vs)
-outcome-same o p ws vs e = (λ i. record { answer = answer i; rec = state .0 i }, state .1)
+pub outcome-same : (o p : Out) (ws vs : List ℕ) → FourPlaces (o .rec) → FourPlaces (p .rec)
+    → outcome (o .answer) (seen (o .rec) ws) ≡ outcome (p .answer) (seen (p .rec) vs) → (o ≡ p) × (ws ≡ vs)
+outcome-same o p ws vs fo fp e = (λ i. record { answer = answer i; rec = state .0 i }, state .1)
   where
     state : (o .rec ≡ p .rec) × (ws ≡ vs)
-    state = seen-same (o .rec) (p .rec) ws vs (ap (λ (q : Outcome State). q .after) e)
+    state = seen-same (o .rec) (p .rec) ws vs fo fp (ap (λ (q : Outcome State). q .after) e)
 
     answer : o .answer ≡ p .answer
     answer = sym (answer-back (o .answer)) ∙ ap (λ (q : Outcome State). answer-of (q .number) (q .value) (q .compared)) e ∙ answer-back (p .answer)

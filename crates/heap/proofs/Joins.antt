@@ -214,10 +214,10 @@ release-by r a q ws ws1 ws2 x n g h eg ea eq =
     listed ∙ merged-by (seen r ws) (seen a ws1) w f n e off ∙ released-between r ws w n
 
 -- SEARCHING as the code walks, on a record and its words
-pub first-fit-is : (sound : State → Bool) (r : Record) (ws : List ℕ) (z : ℕ)
+pub first-fit-is : (r : Record) (ws : List ℕ) (z : ℕ)
     → walkedFit base (seen r ws) z ≡ searchAll (walkIn (numbers (r .next)) ws z (length ws / 4)) (6 - startOf z) (startOf z) 0
 unfolding walkedFit walkIn
-first-fit-is sound r ws z = refl
+first-fit-is r ws z = refl
 
 -- EMPTYING, on record and words
 cleared-seen : (r : Record) (ws : List ℕ) (i k : ℕ) → seen r (clearedIn ws i k) ≡ cleared base (seen r ws) i k

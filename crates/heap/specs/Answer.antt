@@ -1,10 +1,9 @@
 -- DOCUMENT 01'S ANSWER NUMBERS: of each case of the answer its number, value and compared count; and an answer beside the state after the call as the
 -- rules' outcome.
 use mathlib.Core.Path.{_≡_}
-use mathlib.Core.Bool.{Bool, true, false}
+use mathlib.Core.Bool.{Bool, true}
 use Prim.Native.Nat.{ℕ, _≤_, _<_, _%_}
-use Rattle.rules.specs.Rules.{Outcome, says, Chosen, none, one, choose}
-use Rattle.rules.specs.Steps.{lengthAt}
+use Rattle.rules.specs.Rules.{Outcome, says}
 use Rattle.rules.specs.Making.{State}
 use Rattle.rules.specs.Machine as rule
 use Rattle.rules.specs.Test.{soundᵇ}
@@ -38,21 +37,12 @@ compared a = said a .compared
 abbrev pub outcome : Answer → State → Outcome State
 outcome a s = says (number a) (value a) (compared a) s
 
--- a cached chunk was chosen
-abbrev pub servedBy : Chosen → Bool
-servedBy none = false
-servedBy (one x ks) = true
+-- the test that answer 5 goes by, with so many cache places
+abbrev pub soundAt : ℕ → State → Bool
+soundAt places s = soundᵇ base 65529 places s
 
--- the test that answer 5 goes by
-abbrev pub soundAt : State → Bool
-soundAt s = soundᵇ base 65529 1 s
-
--- a rounded size may be served on this state: the audit passed
+-- a rounded size may be served on this state: an audit passed, and what is sound with fewer places is sound with four
 pub record Served (s : State) (z : ℕ) : Type 0 where
-  pub sound : soundAt s ≡ true
+  pub sound : soundAt 4 s ≡ true
   pub least : 16 ≤ z
   pub eights : z % 8 ≡ 0
-
--- whether the cached chunk serves a rounded size
-unfoldable pub cacheServes : State → ℕ → Bool
-cacheServes s z = servedBy (choose (lengthAt base s) z (s .rest .cached))

@@ -1,3 +1,4 @@
+pub mod Kind
 pub mod Seen
 pub mod Released
 pub mod Undoable

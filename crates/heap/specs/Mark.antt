@@ -8,7 +8,18 @@ use Rattle.heap.specs.declared.record.Marked.{Marked}
 
 -- the record with its flag off
 abbrev pub calm : Record → Record
-calm r = record { prev = r .prev; next = r .next; words = r .words; «in_use» = r .«in_use»; committed = r .committed; peak = r .peak; high = r .high; cached = r .cached; fresh = 0 }
+calm r =
+    record {
+      prev = r .prev;
+      next = r .next;
+      cached = r .cached;
+      words = r .words;
+      «in_use» = r .«in_use»;
+      committed = r .committed;
+      peak = r .peak;
+      high = r .high;
+      fresh = 0;
+    }
 
 -- by the flag: 0 is off, any other value on
 abbrev pub marked : ℕ → Record → ℕ → Marked

@@ -1,5 +1,5 @@
--- WHAT THE PUBLIC CALLS PROMISE, and runs of a heap whose calls keep to it. The contracts of src/calls.rt are these; the demands (proofs/Demands.antt) speak
--- of nothing else.
+-- WHAT THE PUBLIC CALLS PROMISE, with any number of cache places, and runs of a heap whose calls keep to it. The contracts of src/calls.rt are these; the
+-- demands (proofs/Demands.antt) speak of nothing else.
 use mathlib.Core.Path.{_≡_}
 use mathlib.Core.List.{List, [], _∷_}
 use Prim.Native.Nat.{ℕ}
@@ -20,38 +20,39 @@ use Rattle.heap.specs.Answer.{said, number, outcome}
 abbrev pub Makes : List ℕ → Out → List ℕ → Type 0
 Makes ws o vs = outcome (o .answer) (seen (o .rec) vs) ≡ make narrow 65529 ws
 
--- asked for a size, the record r over the words ws gives o and the words vs
-abbrev pub HandsOut : Record → List ℕ → ℕ → Out → List ℕ → Type 0
-HandsOut r ws size o vs = outcome (o .answer) (seen (o .rec) vs) ≡ hand base 65529 1 (seen r ws) size
+module _ (places : ℕ) where
+  -- asked for a size, the record r over the words ws gives o and the words vs
+  abbrev pub HandsOut : Record → List ℕ → ℕ → Out → List ℕ → Type 0
+  HandsOut r ws size o vs = outcome (o .answer) (seen (o .rec) vs) ≡ hand base 65529 places (seen r ws) size
 
--- given back the payload at offset p, it gives o and the words vs
-abbrev pub TakesBack : Record → List ℕ → ℕ → Out → List ℕ → Type 0
-TakesBack r ws p o vs = outcome (o .answer) (seen (o .rec) vs) ≡ back base 65529 1 (seen r ws) p
+  -- given back the payload at offset p, it gives o and the words vs
+  abbrev pub TakesBack : Record → List ℕ → ℕ → Out → List ℕ → Type 0
+  TakesBack r ws p o vs = outcome (o .answer) (seen (o .rec) vs) ≡ back base 65529 places (seen r ws) p
 
--- a request of either kind
-abbrev pub Calls : Request → Record → List ℕ → Out → List ℕ → Type 0
-Calls (ask size) r ws o vs = HandsOut r ws size o vs
-Calls (give p) r ws o vs = TakesBack r ws p o vs
+  -- a request of either kind
+  abbrev pub Calls : Request → Record → List ℕ → Out → List ℕ → Type 0
+  Calls (ask size) r ws o vs = HandsOut r ws size o vs
+  Calls (give p) r ws o vs = TakesBack r ws p o vs
 
--- word i lies in the payload of a chunk live at this moment: used and not cached
-abbrev pub LiveIn : Record → List ℕ → ℕ → Type 0
-LiveIn r ws i = Live base 65529 1 (seen r ws) i
+  -- word i lies in the payload of a chunk live at this moment: used and not cached
+  abbrev pub LiveIn : Record → List ℕ → ℕ → Type 0
+  LiveIn r ws i = Live base 65529 places (seen r ws) i
 
--- A RUN from record r and words ws to q and vs: requests, each given what the last call and the tasks' writes left, and tasks' writes of any value
--- into words of payloads live at that moment; the answers in order
-pub data Run : Record → List ℕ → List (Event Request) → List rule.Answer → Record → List ℕ → Type 0 where
-  done : {r : Record} {ws : List ℕ} → Run r ws [] [] r ws
+-- A RUN from record r and words ws to q and vs, all calls with one number of cache places: requests, each given what the last call and the tasks' writes
+-- left, and tasks' writes of any value into words of payloads live at that moment; the answers in order
+pub data Run (places : ℕ) : Record → List ℕ → List (Event Request) → List rule.Answer → Record → List ℕ → Type 0 where
+  done : {r : Record} {ws : List ℕ} → Run places r ws [] [] r ws
   calls : {r q : Record} {ws us vs : List ℕ} {es : List (Event Request)} {bs : List rule.Answer} {k : Request} (o : Out)
-      → Calls k r ws o us → Run (o .rec) us es bs q vs → Run r ws (asks k ∷ es) (said (o .answer) ∷ bs) q vs
+      → Calls places k r ws o us → Run places (o .rec) us es bs q vs → Run places r ws (asks k ∷ es) (said (o .answer) ∷ bs) q vs
   stores : {r q : Record} {ws vs : List ℕ} {es : List (Event Request)} {bs : List rule.Answer} {i v : ℕ}
-      → LiveIn r ws i → Run r (set ws i v) es bs q vs → Run r ws (writes i v ∷ es) bs q vs
+      → LiveIn places r ws i → Run places r (set ws i v) es bs q vs → Run places r ws (writes i v ∷ es) bs q vs
 
 -- FROM MAKING ON: n words, whatever they held, are made a heap, and a run follows, with these events and answers, to q and vs
-pub record FromMaking (n : ℕ) (es : List (Event Request)) (bs : List rule.Answer) (q : Record) (vs : List ℕ) : Type 0 where
+pub record FromMaking (places n : ℕ) (es : List (Event Request)) (bs : List rule.Answer) (q : Record) (vs : List ℕ) : Type 0 where
   pub memory : List ℕ
   pub long : length memory ≡ n
   pub out : Out
   pub words : List ℕ
   pub makes : Makes memory out words
   pub made : number (out .answer) ≡ 0
-  pub runs : Run (out .rec) words es bs q vs
+  pub runs : Run places (out .rec) words es bs q vs

@@ -4,14 +4,17 @@
 ghost use mathlib.Core.Path.{_≡_};
 ghost use mathlib.Core.Bool.{true};
 ghost use mathlib.Core.List.{[], _∷_, _++_};
-ghost use Prim.Native.Nat.{_-_, _*_, _≤_, _%_};
+ghost use Prim.Native.Nat.{_-_, _*_, _≤_, _<_, _%_};
 ghost use lib.ListN.{length};
 ghost use Rattle.rules.specs.Rules.{Outcome, fromList, firstFit, serve, settled, live};
 ghost use Rattle.rules.specs.Steps.{oneChunk};
 ghost use Rattle.heap.specs.Seen.{seen, base};
-ghost use Rattle.audit.specs.Shown.{cachedOf};
+ghost use Rattle.words.specs.Numbers.{numbers};
+ghost use Rattle.cache.specs.Places.{cachedOf};
+ghost use Rattle.heap.specs.Kind.{placesOf};
 ghost use Rattle.heap.specs.Promises.{Makes, HandsOut, TakesBack};
-ghost use Rattle.heap.specs.Answer.{outcome, soundAt, cacheServes, Served};
+ghost use Rattle.heap.specs.Answer.{outcome, soundAt, Served};
+use super::kind::Kind;
 use super::record::Record;
 use audit::Figures;
 use steps::Found;
@@ -39,9 +42,9 @@ pub struct Out {
 }
 
 impl Record {
-    // Whether the record and these words are sound.
-    pub fn audit(self, heap: &[u32]) -> bool
-        ensures { λ r. ⌜ r ≡ soundAt (seen self (now (heap .entry))) ⌝ }
+    // Whether the record and these words are sound, for a heap of this kind.
+    pub fn audit(self, heap: &[u32], kind: Kind) -> bool
+        ensures { λ r. ⌜ r ≡ soundAt (placesOf kind) (seen self (now (heap .entry))) ⌝ }
     {
         let prev = self.prev;
         let next = self.next;
@@ -55,7 +58,8 @@ impl Record {
             cached,
             fresh: self.fresh,
         };
-        audit::audit(prev, next, figures, heap)
+        let places = kind.places();
+        audit::audit(prev, next, figures, heap, places)
     }
 
     // Makes a heap of the whole slice: one free chunk and the guard. Refuses a length that is not odd, or not 5 to 65,529.
@@ -89,8 +93,8 @@ impl Record {
     }
 
     // Hands out a payload of at least `size` bytes, all of them 0, its slack too.
-    pub fn hand_out(self, heap: &mut [u32], size: u32) -> Out
-        ensures { λ r. ⌜ HandsOut self (now (heap .entry)) size r (now (heap .exit)) ⌝ }
+    pub fn hand_out(self, heap: &mut [u32], size: u32, kind: Kind) -> Out
+        ensures { λ r. ⌜ HandsOut (placesOf kind) self (now (heap .entry)) size r (now (heap .exit)) ⌝ }
     {
         if size == 0 {
             return Out {
@@ -104,7 +108,7 @@ impl Record {
                 rec: self,
             };
         }
-        let sound = self.audit(heap);
+        let sound = self.audit(heap, kind);
         if !sound {
             return Out {
                 answer: Answer::Damaged,
@@ -116,10 +120,10 @@ impl Record {
     }
 
     // Takes back the payload that begins at this offset.
-    pub fn take_back(self, heap: &mut [u32], payload: ByteOffset) -> Out
-        ensures { λ r. ⌜ TakesBack self (now (heap .entry)) (payload .0) r (now (heap .exit)) ⌝ }
+    pub fn take_back(self, heap: &mut [u32], payload: ByteOffset, kind: Kind) -> Out
+        ensures { λ r. ⌜ TakesBack (placesOf kind) self (now (heap .entry)) (payload .0) r (now (heap .exit)) ⌝ }
     {
-        let sound = self.audit(heap);
+        let sound = self.audit(heap, kind);
         if !sound {
             return Out {
                 answer: Answer::Damaged,
@@ -135,7 +139,8 @@ impl Record {
         }
         let l = words::hdr_to_link(words::payload_to_hdr(payload));
         let held = steps::less(self.in_use, length);
-        let rec = self.settle(heap, held, l);
+        let places = kind.places();
+        let rec = self.settle(heap, held, l, places);
         Out {
             answer: Answer::Done(ByteOffset(0), 0),
             rec,
@@ -157,61 +162,54 @@ impl Record {
 
     // The length of the live chunk whose payload begins at p, 0 where none does. Only the tiling tells: not the word before the payload.
     fn live_length(self, heap: &[u32], p: u32) -> u32
-        ensures { λ r. ⌜ r ≡ live base 1 soundAt (seen self (now (heap .entry))) p ⌝ }
+        ensures { λ r. ⌜ r ≡ live base (seen self (now (heap .entry))) p ⌝ }
     {
         if p < 4 {
             return 0;
         }
-        let cached = self.cached.0 as u32;
-        if (p - 4) / 4 + 6 == cached {
+        let c = self.cached;
+        let cold = cache::holds(c, (p - 4) / 4 + 6);
+        if cold {
             return 0;
         }
         steps::used_length(heap, p - 4)
     }
 
-    // Caches the chunk l, `held` bytes being in use then; the chunk that was cached before is released.
-    fn settle(self, heap: &mut [u32], held: u32, l: Link) -> Record
-        requires { ⌜ (soundAt (seen self (now heap)) ≡ true) × (6 ≤ l .0) ⌝ }
-        ensures { λ r. ⌜ seen r (now (heap .exit)) ≡ settled base 1 soundAt (seen self (now (heap .entry))) held (cachedOf (self .cached .0) ++ l .0 ∷ []) ⌝ }
+    // Caches the chunk l as the newest, `held` bytes being in use then; where all places are used, the oldest one is released first.
+    fn settle(self, heap: &mut [u32], held: u32, l: Link, places: usize) -> Record
+        requires { ⌜ (soundAt 4 (seen self (now heap)) ≡ true) × (6 ≤ l .0) × (0 < places) × (places ≤ 4) ⌝ }
+        ensures { λ r. ⌜ seen r (now (heap .exit)) ≡ settled base places (seen self (now (heap .entry))) held (cachedOf (numbers (self .cached)) ++ l .0 ∷ []) ⌝ }
     {
-        let old = self.cached;
-        if old.0 == 0 {
-            return self.with_cached(held, l);
+        let c = self.cached;
+        let k = cache::used_places(c);
+        if k < places {
+            let more = cache::put_last(c, k, l);
+            return self.with_cached(held, more);
         }
+        let old = c[0];
         let n = words::get_hdr_chunk_size(heap, words::link_to_hdr(old));
         let a = self.release_chunk(heap, old, n);
-        a.count_out(held, n, l)
+        let others = cache::left_out(c, 0);
+        let newer = cache::put_last(others, words::monus(k, 1), l);
+        a.count_out(held, n, newer)
     }
 
-    // Whether the cached chunk, if there is one, serves a rounded size: long enough, and at most SLACK bytes too long.
-    fn cache_serves(self, heap: &[u32], z: u32) -> bool
-        ensures { λ r. ⌜ r ≡ cacheServes (seen self (now (heap .entry))) z ⌝ }
-    {
-        let cached = self.cached;
-        if cached.0 == 0 {
-            return false;
-        }
-        let n = words::get_hdr_chunk_size(heap, words::link_to_hdr(cached));
-        if n < z {
-            return false;
-        }
-        n - z <= Self::SLACK
-    }
-
-    // Serves a rounded size on a sound heap: from the cache, else from the lists. The payload arrives empty.
+    // Serves a rounded size on a sound heap: from the cache, the oldest chunk that serves, else from the lists. The payload arrives empty.
     fn serve(self, heap: &mut [u32], z: u32) -> Out
         requires { ⌜ Served (seen self (now heap)) z ⌝ }
-        ensures { λ r. ⌜ outcome (r .answer) (seen (r .rec) (now (heap .exit))) ≡ serve base 1 soundAt (seen self (now (heap .entry))) z ⌝ }
+        ensures { λ r. ⌜ outcome (r .answer) (seen (r .rec) (now (heap .exit))) ≡ serve base (seen self (now (heap .entry))) z ⌝ }
     {
-        let hit = self.cache_serves(heap, z);
-        if hit {
-            let hdr = words::link_to_hdr(self.cached);
+        let c = self.cached;
+        let k = cache::choice(heap, c, z);
+        if k < Self::PLACES {
+            let hdr = words::link_to_hdr(c[k]);
             let n = words::get_hdr_chunk_size(heap, hdr);
             steps::clear_payload(heap, hdr, n);
             let held = self.in_use + n;
+            let others = cache::left_out(c, k);
             return Out {
                 answer: Answer::Done(words::hdr_to_payload(hdr), 0),
-                rec: self.with_cached(held, Link(0)),
+                rec: self.with_cached(held, others),
             };
         }
         self.serve_listed(heap, z)
@@ -220,7 +218,7 @@ impl Record {
     // Serves a rounded size on a sound heap from the lists; what is cleared is the chunk as finally cut.
     fn serve_listed(self, heap: &mut [u32], z: u32) -> Out
         requires { ⌜ Served (seen self (now heap)) z ⌝ }
-        ensures { λ r. ⌜ outcome (r .answer) (seen (r .rec) (now (heap .exit))) ≡ fromList base 1 soundAt (seen self (now (heap .entry))) z (firstFit base 1 soundAt (seen self (now (heap .entry))) z) ⌝ }
+        ensures { λ r. ⌜ outcome (r .answer) (seen (r .rec) (now (heap .exit))) ≡ fromList base (seen self (now (heap .entry))) z (firstFit base (seen self (now (heap .entry))) z) ⌝ }
     {
         let next = self.next;
         let found = steps::search_first_fit(next, heap, z);

@@ -2,7 +2,8 @@
 //
 // Files in document 01's port order; the functions bear heap.rs's names.
 //
-//     record    what the heap knows besides its words: sentinels, counters, the cached chunk
+//     kind      how many cache places a heap has
+//     record    what the heap knows besides its words: sentinels, counters, the cached chunks
 //     lists     link_chunk, unlink_chunk
 //     merge     merge_neighbor_if_possible, and the rest of releasing a chunk
 //     split     return_excess_to_free_list, and the rest of taking one
@@ -14,6 +15,7 @@
 // Any record, any memory and any number may be passed to a public function. Its contract is one equation with a rule of crate `rules`, on
 // the record and words as `seen` (specs/Seen.antt) reads them.
 mod calls;
+mod kind;
 mod lists;
 mod merge;
 mod record;
@@ -22,6 +24,7 @@ mod undo;
 
 pub use calls::Answer;
 pub use calls::Out;
+pub use kind::Kind;
 pub use record::Mark;
 pub use record::Marked;
 pub use record::Record;

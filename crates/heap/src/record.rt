@@ -16,20 +16,20 @@ pub struct Record {
     pub prev: [Link; 6],
     // the next link of each list's sentinel: its first chunk, or the sentinel itself
     pub next: [Link; 6],
+    // the cached chunks, oldest first; link 0, which names no chunk, for an unused place, and those come last
+    pub cached: [Link; 4],
     // how many words the heap has; 0 before a heap is made
     pub words: u32,
     // bytes in use, as tasks hold them: the sum of live lengths
     pub in_use: u32,
-    // bytes committed: the sum of used lengths, that of the cached chunk included
+    // bytes committed: the sum of used lengths, those of the cached chunks included
     pub committed: u32,
     // the largest that committed has been
     pub peak: u32,
     // the largest end, in bytes, of a chunk that was handed out
     pub high: u32,
-    // the cached chunk; link 0, which names no chunk, if there is none
-    pub cached: Link,
     // whether high water has risen since the mark was last read: 1 if it has, else 0; any other value is damaged
-    pub fresh: u16,
+    pub fresh: u32,
 }
 
 // What the mark says: nothing new, or high water less the stacks' share.
@@ -53,7 +53,9 @@ impl Record {
 
     pub const LEAST_CHUNK: u32 = 16;
 
-    pub const SLACK: u32 = 512;
+    pub const PLACES: usize = 4;
+
+    pub const SLACK: u32 = cache::SLACK;
 
     pub const STACKLET: u64 = 108;
 
@@ -64,12 +66,12 @@ impl Record {
         Record {
             prev: [Link(0); 6],
             next: [Link(0); 6],
+            cached: [Link(0); 4],
             words: 0,
             in_use: 0,
             committed: 0,
             peak: 0,
             high: 0,
-            cached: Link(0),
             fresh: 0,
         }
     }
@@ -81,12 +83,12 @@ impl Record {
         Record {
             prev: [Link(0), Link(1), Link(2), Link(3), Link(4), Link(5)],
             next: [Link(0), Link(1), Link(2), Link(3), Link(4), Link(5)],
+            cached: [Link(0); 4],
             words,
             in_use: 0,
             committed: 0,
             peak: 0,
             high: 0,
-            cached: Link(0),
             fresh: 0,
         }
     }
@@ -98,7 +100,7 @@ impl Record {
         self.in_use
     }
 
-    // Bytes committed: those in use, and those of the cached chunk.
+    // Bytes committed: those in use, and those of the cached chunks.
     pub fn committed(self) -> u32
         ensures { λ r. ⌜ r ≡ self .committed ⌝ }
     {
@@ -164,12 +166,12 @@ impl Record {
         self
     }
 
-    // The record with `held` bytes in use and another cached chunk, link 0 for none; committed stays.
-    pub(crate) fn with_cached(mut self, held: u32, l: Link) -> Record
-        ensures { λ r. ⌜ r ≡ withCached self held l ⌝ }
+    // The record with `held` bytes in use and other cached chunks; committed stays.
+    pub(crate) fn with_cached(mut self, held: u32, c: [Link; 4]) -> Record
+        ensures { λ r. ⌜ r ≡ withCached self held c ⌝ }
     {
         self.in_use = held;
-        self.cached = l;
+        self.cached = c;
         self
     }
 
@@ -187,8 +189,8 @@ impl Record {
         self
     }
 
-    // The counters after a chunk of n bytes left the cache for a list, a newer one came into it, and `held` bytes are in use.
-    pub(crate) fn count_out(mut self, held: u32, n: u32, newer: Link) -> Record
+    // The counters after a chunk of n bytes left the cache for a list, others are cached then, and `held` bytes are in use.
+    pub(crate) fn count_out(mut self, held: u32, n: u32, newer: [Link; 4]) -> Record
         ensures { λ r. ⌜ r ≡ countedOut self held n newer ⌝ }
     {
         self.in_use = held;

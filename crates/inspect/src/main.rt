@@ -10,6 +10,7 @@ ghost use mathlib.Core.Path.{_≡_};
 ghost use mathlib.Core.Bool.{true};
 ghost use Prim.Native.Nat.{_≤_, _<_};
 ghost use lib.ListN.{length};
+use heap::Kind;
 use map::Answer;
 
 // What was read of the input.
@@ -30,7 +31,7 @@ fn main() {
     }
     let len = whole.len;
     let mut room = [0u32; 49146];
-    let answer = map::read_map(&text[0..len], &mut room);
+    let answer = map::read_map(&text[0..len], &mut room, Kind::Four);
     let mut out = [0u8; 19];
     write_reply(answer, &mut out);
     io::write_all(1, &out);

@@ -44,21 +44,21 @@ module _ (n : ℕ) (xs room : List ℕ) where
       go true e z = leb-true (length xs) (length room) e
       go false e z = absurd (let k : _≡_ {A = ℕ} 6 0 = z in omega arith)
 
-module _ (s : State) (room : List ℕ) where
-  pub written-sound : soundAt s ≡ true → written s room ≡ laid (length (rowsOf s)) (linesOf (rowsOf s)) room
+module _ (places : ℕ) (s : State) (room : List ℕ) where
+  pub written-sound : soundAt places s ≡ true → written places s room ≡ laid (length (rowsOf s)) (linesOf (rowsOf s)) room
   unfolding written
   written-sound e = rw e
 
-  pub written-damaged : soundAt s ≡ false → written s room ≡ says 5 0 0 room
+  pub written-damaged : soundAt places s ≡ false → written places s room ≡ says 5 0 0 room
   unfolding written
   written-damaged e = rw e
 
   -- answer 0: the state is sound, and its lines stand in the room
-  pub written-done : written s room .number ≡ 0
-      → (soundAt s ≡ true) × (written s room ≡ says 0 (length (rowsOf s)) 0 (over (linesOf (rowsOf s)) room))
-  written-done z = go (soundAt s) refl
+  pub written-done : written places s room .number ≡ 0
+      → (soundAt places s ≡ true) × (written places s room ≡ says 0 (length (rowsOf s)) 0 (over (linesOf (rowsOf s)) room))
+  written-done z = go (soundAt places s) refl
     where
-      go : (t : Bool) → soundAt s ≡ t → (soundAt s ≡ true) × (written s room ≡ says 0 (length (rowsOf s)) 0 (over (linesOf (rowsOf s)) room))
+      go : (t : Bool) → soundAt places s ≡ t → (soundAt places s ≡ true) × (written places s room ≡ says 0 (length (rowsOf s)) 0 (over (linesOf (rowsOf s)) room))
       go true e =
           let w = written-sound e in
           let f = laid-zero (length (rowsOf s)) (linesOf (rowsOf s)) room (ap (λ (o : Outcome (List ℕ)). o .number) (sym w) ∙ z) in

@@ -118,44 +118,44 @@ pub sound-map-read-back : (places : ℕ) (s : State) → Sound base 65529 places
 sound-map-read-back places s h = map-read 65529 places (omega arith) (rowsOf s) (map-of-sound-heap places s (h .0) (h .1) .1)
 
 -- WRITING: of a damaged state, of a sound one into room that is too short, and into room enough; the room past the lines keeps its content
-pub what-is-written : (s : State) (room : List ℕ)
-    → ((Sound base 65529 1 s → ⊥) → written s room ≡ says 5 0 0 room)
-    × (Sound base 65529 1 s → length room < 19 * length (rowsOf s) → written s room ≡ says 6 0 0 room)
-    × (Sound base 65529 1 s → 19 * length (rowsOf s) ≤ length room
-    → written s room ≡ says 0 (length (rowsOf s)) 0 (linesOf (rowsOf s) ++ drop (19 * length (rowsOf s)) room))
-what-is-written s room = (
-  λ damaged. refused (soundAt s) refl damaged,
+pub what-is-written : (places : ℕ) (s : State) (room : List ℕ)
+    → ((Sound base 65529 places s → ⊥) → written places s room ≡ says 5 0 0 room)
+    × (Sound base 65529 places s → length room < 19 * length (rowsOf s) → written places s room ≡ says 6 0 0 room)
+    × (Sound base 65529 places s → 19 * length (rowsOf s) ≤ length room
+    → written places s room ≡ says 0 (length (rowsOf s)) 0 (linesOf (rowsOf s) ++ drop (19 * length (rowsOf s)) room))
+what-is-written places s room = (
+  λ damaged. refused (soundAt places s) refl damaged,
   λ h short. sound h ∙ laid-short (length (rowsOf s)) (linesOf (rowsOf s)) room (19 * length (rowsOf s)) (length-lines (rowsOf s)) short,
   λ h enough. sound h ∙ laid-past (length (rowsOf s)) (linesOf (rowsOf s)) room (19 * length (rowsOf s)) (length-lines (rowsOf s)) enough,
 )
   where
-    sound : Sound base 65529 1 s → written s room ≡ laid (length (rowsOf s)) (linesOf (rowsOf s)) room
-    sound h = written-sound s room (true-sound (narrow-edition 1) s h)
+    sound : Sound base 65529 places s → written places s room ≡ laid (length (rowsOf s)) (linesOf (rowsOf s)) room
+    sound h = written-sound places s room (true-sound (narrow-edition places) s h)
 
-    refused : (t : Bool) → soundAt s ≡ t → (Sound base 65529 1 s → ⊥) → written s room ≡ says 5 0 0 room
-    refused true e damaged = absurd (damaged (sound-true (narrow-edition 1) s e))
-    refused false e damaged = written-damaged s room e
+    refused : (t : Bool) → soundAt places s ≡ t → (Sound base 65529 places s → ⊥) → written places s room ≡ says 5 0 0 room
+    refused true e damaged = absurd (damaged (sound-true (narrow-edition places) s e))
+    refused false e damaged = written-damaged places s room e
 
 -- READING: bytes with a first bad line, the lines of a legal map into room that is too short, and into room enough
-pub what-is-read : (bs room : List ℕ)
-    → ((k : ℕ) → FirstBad 65529 1 bs k → readInto (readAll 65529 1 bs) room ≡ says 7 k 0 room)
-    × ((rs : List Row) → LegalMap 65529 1 rs → bs ≡ linesOf rs → length room < 3 * length rs → readInto (readAll 65529 1 bs) room ≡ says 6 0 0 room)
-    × ((rs : List Row) → LegalMap 65529 1 rs → bs ≡ linesOf rs → 3 * length rs ≤ length room
-    → readInto (readAll 65529 1 bs) room ≡ says 0 (length rs) 0 (wordsOf rs ++ drop (3 * length rs) room))
-what-is-read bs room = (
-  λ k f. ap (λ (q : Read). readInto q room) (bad-read 65529 1 (omega arith) bs k f),
+pub what-is-read : (places : ℕ) (bs room : List ℕ)
+    → ((k : ℕ) → FirstBad 65529 places bs k → readInto (readAll 65529 places bs) room ≡ says 7 k 0 room)
+    × ((rs : List Row) → LegalMap 65529 places rs → bs ≡ linesOf rs → length room < 3 * length rs → readInto (readAll 65529 places bs) room ≡ says 6 0 0 room)
+    × ((rs : List Row) → LegalMap 65529 places rs → bs ≡ linesOf rs → 3 * length rs ≤ length room
+    → readInto (readAll 65529 places bs) room ≡ says 0 (length rs) 0 (wordsOf rs ++ drop (3 * length rs) room))
+what-is-read places bs room = (
+  λ k f. ap (λ (q : Read). readInto q room) (bad-read 65529 places (omega arith) bs k f),
   λ rs m e short. good rs m e ∙ laid-short (length rs) (wordsOf rs) room (3 * length rs) (length-words rs) short,
   λ rs m e enough. good rs m e ∙ laid-past (length rs) (wordsOf rs) room (3 * length rs) (length-words rs) enough,
 )
   where
-    good : (rs : List Row) → LegalMap 65529 1 rs → bs ≡ linesOf rs → readInto (readAll 65529 1 bs) room ≡ laid (length rs) (wordsOf rs) room
-    good rs m e = ap (λ (q : Read). readInto q room) (ap (readAll 65529 1) e ∙ map-read 65529 1 (omega arith) rs m)
+    good : (rs : List Row) → LegalMap 65529 places rs → bs ≡ linesOf rs → readInto (readAll 65529 places bs) room ≡ laid (length rs) (wordsOf rs) room
+    good rs m e = ap (λ (q : Read). readInto q room) (ap (readAll 65529 places) e ∙ map-read 65529 places (omega arith) rs m)
 
 -- what was written into lent bytes, as many lines as the answer says, is read as the state's rows
-pub written-map-read-back : (s : State) (room : List ℕ) → written s room .number ≡ 0
-    → readAll 65529 1 (take (19 * written s room .value) (written s room .after)) ≡ rows (rowsOf s)
-written-map-read-back s room z =
-    let w = written-done s room z in
-    ap (λ (o : Outcome (List ℕ)). readAll 65529 1 (take (19 * o .value) (o .after))) (w .1)
-    ∙ ap (readAll 65529 1) (take-over (linesOf (rowsOf s)) room (19 * length (rowsOf s)) (length-lines (rowsOf s)))
-    ∙ sound-map-read-back 1 s (sound-true (narrow-edition 1) s (w .0))
+pub written-map-read-back : (places : ℕ) (s : State) (room : List ℕ) → written places s room .number ≡ 0
+    → readAll 65529 places (take (19 * written places s room .value) (written places s room .after)) ≡ rows (rowsOf s)
+written-map-read-back places s room z =
+    let w = written-done places s room z in
+    ap (λ (o : Outcome (List ℕ)). readAll 65529 places (take (19 * o .value) (o .after))) (w .1)
+    ∙ ap (readAll 65529 places) (take-over (linesOf (rowsOf s)) room (19 * length (rowsOf s)) (length-lines (rowsOf s)))
+    ∙ sound-map-read-back places s (sound-true (narrow-edition places) s (w .0))

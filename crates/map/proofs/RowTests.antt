@@ -9,8 +9,8 @@ use mathlib.Core.Path.{_≡_, refl, sym}
 use mathlib.Core.Bool.{Bool, true, false, not}
 use Prim.Native.Nat.{ℕ, zero, suc, _+_, _-_, _*_, _%_, _^_, _≤_, _<_}
 use native.Mathlib.Omega.{arith}
-use lib.Dec.{eqb, leb}
-use borrow.Author.Tests.{eq-eqb, ne-eqb, le-leb, lt-leb, eqb-true, leb-true}
+use lib.Dec.{eqb, leb, ltb}
+use borrow.Author.Tests.{eq-eqb, ne-eqb, le-leb, lt-leb, le-ltb, lt-ltb, eqb-true, leb-true, leb-false}
 use Rattle.words.specs.Choice.{bit}
 use Rattle.rules.specs.Test.{both}
 use Rattle.map.specs.declared.rows.Row.{Row}
@@ -107,33 +107,33 @@ module _ (most places : ℕ) (p : Place) (r : Row) where
   unfolding followsᵇ
   follows-not e = rw (← e)
 
-module _ (p : Place) (r : Row) (s : true ≡ standsᵇ 65529 (p .at) r) where
-  -- a cached one: none was cached before
-  pub follows-cached : r .kind ≡ 18 → eqb (p .held) 0 ≡ followsᵇ 65529 1 p r
+module _ (places : ℕ) (p : Place) (r : Row) (s : true ≡ standsᵇ 65529 (p .at) r) where
+  -- a cached one: a place is left
+  pub follows-cached : r .kind ≡ 18 → ltb (p .held) places ≡ followsᵇ 65529 places p r
   unfolding followsᵇ
-  follows-cached k = rw (← s, eq-eqb (r .kind) 18 k, ne-eqb (r .kind) 16 (λ e. omega arith), both-false (p .free)) (go (p .held))
+  follows-cached k = rw (← s, eq-eqb (r .kind) 18 k, ne-eqb (r .kind) 16 (λ e. omega arith), both-false (p .free)) (go (leb (p .held + 1) places) refl)
     where
-      go : (n : ℕ) → eqb n 0 ≡ leb (n + 1) 1
-      go zero = refl
-      go (suc n) = let h : 1 < suc n + 1 = omega arith in rw (lt-leb (suc n + 1) 1 h, ne-eqb (suc n) 0 (λ e. omega arith))
+      go : (t : Bool) → leb (p .held + 1) places ≡ t → ltb (p .held) places ≡ t
+      go true e = let h = leb-true (p .held + 1) places e in lt-ltb (p .held) places (omega arith)
+      go false e = let h = leb-false (p .held + 1) places e in le-ltb (p .held) places (omega arith)
 
-  -- none follows where more than one was
-  pub follows-over : 1 < p .held → false ≡ followsᵇ 65529 1 p r
+  -- none follows where more were than there are places
+  pub follows-over : places < p .held → false ≡ followsᵇ 65529 places p r
   unfolding followsᵇ
   follows-over h =
-      rw (← s, lt-leb (p .held + bit (eqb (r .kind) 18)) 1 (omega arith), both-false (not (both (p .free) (eqb (r .kind) 16))))
+      rw (← s, lt-leb (p .held + bit (eqb (r .kind) 18)) places (omega arith), both-false (not (both (p .free) (eqb (r .kind) 16))))
 
-  module _ (few : p .held ≤ 1) (other : r .kind ≡ 18 → ⊥) where
-    one : leb (p .held + 0) 1 ≡ true
-    one = le-leb (p .held + 0) 1 (omega arith)
+  module _ (few : p .held ≤ places) (other : r .kind ≡ 18 → ⊥) where
+    one : leb (p .held + 0) places ≡ true
+    one = le-leb (p .held + 0) places (omega arith)
 
     -- a live one
-    pub follows-live : r .kind ≡ 17 → true ≡ followsᵇ 65529 1 p r
+    pub follows-live : r .kind ≡ 17 → true ≡ followsᵇ 65529 places p r
     unfolding followsᵇ
     follows-live k = rw (← s, ne-eqb (r .kind) 18 other, ne-eqb (r .kind) 16 (λ e. omega arith), both-false (p .free), one)
 
     -- a free one: none stands before it
-    pub follows-free : (r .kind ≡ 17 → ⊥) → not (p .free) ≡ followsᵇ 65529 1 p r
+    pub follows-free : (r .kind ≡ 17 → ⊥) → not (p .free) ≡ followsᵇ 65529 places p r
     unfolding followsᵇ
     follows-free n =
         let t = stands-true 65529 (p .at) r (sym s) in

@@ -20,13 +20,13 @@ use Rattle.map.specs.Answer.{number, value, told}
 use Rattle.map.specs.Reading.{Read, rows, bad, readAll}
 use Rattle.map.specs.Calls.{over, laid, rowsOf, written, readInto}
 
--- the contract of `write_map` (src/write.rt): the record r, the words ws and the room give the answer a and leave the room b
-abbrev pub WritesMap : Record → List ℕ → List ℕ → Answer → List ℕ → Type 0
-WritesMap r ws room a b = told a b ≡ written (seen r ws) room
+-- the contract of `write_map` (src/write.rt), with so many cache places: the record r, the words ws and the room give the answer a and leave the room b
+abbrev pub WritesMap : ℕ → Record → List ℕ → List ℕ → Answer → List ℕ → Type 0
+WritesMap places r ws room a b = told a b ≡ written places (seen r ws) room
 
 -- the contract of `read_map` (src/read.rt)
-abbrev pub ReadsMap : List ℕ → List ℕ → Answer → List ℕ → Type 0
-ReadsMap bytes room a b = told a b ≡ readInto (readAll 65529 1 bytes) room
+abbrev pub ReadsMap : ℕ → List ℕ → List ℕ → Answer → List ℕ → Type 0
+ReadsMap places bytes room a b = told a b ≡ readInto (readAll 65529 places bytes) room
 
 -- an answer is known by its two numbers
 abbrev answer-of : ℕ → ℕ → Answer
@@ -54,18 +54,18 @@ told-same a b x y e = (
 )
 
 -- one outcome of writing
-pub write-map-determined : (r : Record) (ws room x y : List ℕ) (a b : Answer)
-    → WritesMap r ws room a x
-    → WritesMap r ws room b y
+pub write-map-determined : (places : ℕ) (r : Record) (ws room x y : List ℕ) (a b : Answer)
+    → WritesMap places r ws room a x
+    → WritesMap places r ws room b y
     → (a ≡ b) × (x ≡ y)
-write-map-determined r ws room x y a b e d = told-same a b x y (e ∙ sym d)
+write-map-determined places r ws room x y a b e d = told-same a b x y (e ∙ sym d)
 
 -- one outcome of reading
-pub read-map-determined : (bytes room x y : List ℕ) (a b : Answer)
-    → ReadsMap bytes room a x
-    → ReadsMap bytes room b y
+pub read-map-determined : (places : ℕ) (bytes room x y : List ℕ) (a b : Answer)
+    → ReadsMap places bytes room a x
+    → ReadsMap places bytes room b y
     → (a ≡ b) × (x ≡ y)
-read-map-determined bytes room x y a b e d = told-same a b x y (e ∙ sym d)
+read-map-determined places bytes room x y a b e d = told-same a b x y (e ∙ sym d)
 
 -- after every number but 0 the room is as it was
 abbrev Kept : List ℕ → Outcome (List ℕ) → Type 0
@@ -81,9 +81,9 @@ laid-kept n xs room = go (leb (length xs) (length room))
     go false h = refl
 
 -- writing that is refused leaves the room
-pub written-kept : (r : Record) (ws room : List ℕ) → Kept room (written (seen r ws) room)
+pub written-kept : (places : ℕ) (r : Record) (ws room : List ℕ) → Kept room (written places (seen r ws) room)
 unfolding written
-written-kept r ws room = go (soundAt (seen r ws))
+written-kept places r ws room = go (soundAt places (seen r ws))
   where
     go : (t : Bool) → Kept room (pick t (laid (length (rowsOf (seen r ws))) (linesOf (rowsOf (seen r ws))) room) (says 5 0 0 room))
     go true = laid-kept (length (rowsOf (seen r ws))) (linesOf (rowsOf (seen r ws))) room
@@ -95,17 +95,17 @@ read-kept (rows rs) room = laid-kept (length rs) (wordsOf rs) room
 read-kept (bad k) room = λ h. refl
 
 -- a refused writing changes nothing
-pub write-map-refused : (r : Record) (ws room x : List ℕ) (a : Answer)
-    → WritesMap r ws room a x
+pub write-map-refused : (places : ℕ) (r : Record) (ws room x : List ℕ) (a : Answer)
+    → WritesMap places r ws room a x
     → number a ≢ 0
     → x ≡ room
-write-map-refused r ws room x a e h =
-    ap (λ (o : Outcome (List ℕ)). o .after) e ∙ written-kept r ws room (λ z. h (ap (λ (o : Outcome (List ℕ)). o .number) e ∙ z))
+write-map-refused places r ws room x a e h =
+    ap (λ (o : Outcome (List ℕ)). o .after) e ∙ written-kept places r ws room (λ z. h (ap (λ (o : Outcome (List ℕ)). o .number) e ∙ z))
 
 -- a refused reading changes nothing
-pub read-map-refused : (bytes room x : List ℕ) (a : Answer)
-    → ReadsMap bytes room a x
+pub read-map-refused : (places : ℕ) (bytes room x : List ℕ) (a : Answer)
+    → ReadsMap places bytes room a x
     → number a ≢ 0
     → x ≡ room
-read-map-refused bytes room x a e h =
-    ap (λ (o : Outcome (List ℕ)). o .after) e ∙ read-kept (readAll 65529 1 bytes) room (λ z. h (ap (λ (o : Outcome (List ℕ)). o .number) e ∙ z))
+read-map-refused places bytes room x a e h =
+    ap (λ (o : Outcome (List ℕ)). o .after) e ∙ read-kept (readAll 65529 places bytes) room (λ z. h (ap (λ (o : Outcome (List ℕ)). o .number) e ∙ z))

@@ -20,7 +20,8 @@ use Rattle.rules.specs.Making.{State, make}
 use Rattle.rules.specs.Machine.{ask, give}
 use Rattle.rules.specs.Test.{legalᵇ, calmᵇ, tagsᵇ, segᵇ, belowᵇ, everyᵇ, slotᵇ, exactᵇ, distinctᵇ, underᵇ, cacheᵇ, figuresᵇ, showsᵇ, candidate, soundᵇ}
 use Rattle.rules.specs.Runs.{call}
-use Rattle.rules.specs.Table.{base, made, after}
+use Rattle.rules.specs.Kind.{one}
+use Rattle.rules.specs.Table.{made, after}
 use Rattle.map.specs.Rows.{row, linesOf, wordsOf}
 use Rattle.map.specs.Layout.{mapOf}
 use Rattle.map.specs.Reading.{rowIn, standsᵇ, followsᵇ, Read, rows, bad, lineRead, readFrom, readAll}
@@ -33,11 +34,11 @@ bytes (String._∷_ c s) = code c ∷ bytes s
 
 -- a text, read
 abbrev read : String → Read
-read t = readAll 65529 1 (bytes t)
+read t = readAll 65529 (one .places) (bytes t)
 
 -- 33 words made; 20, 12 and 52 bytes asked for; the second and the third taken back
 abbrev worn : State
-worn = after base (made base 33) (ask 20 ∷ ask 12 ∷ ask 52 ∷ give 28 ∷ give 44 ∷ []) .after
+worn = after one (made one 33) (ask 20 ∷ ask 12 ∷ ask 52 ∷ give 28 ∷ give 44 ∷ []) .after
 
 -- its map: 24 bytes live, 16 free, 56 cached, 32 free
 abbrev wornMap : String
@@ -45,7 +46,7 @@ wornMap = "110000000000000018\n100000001800000010\n120000002800000038\n100000006
 
 -- it is written, with what is past it in the room left as it was, and not into room that is a byte short
 pub worn-written :
-    written worn (replicate 80 255) ∷ written worn (replicate 75 255) ∷ []
+    written (one .places) worn (replicate 80 255) ∷ written (one .places) worn (replicate 75 255) ∷ []
     ≡ says 0 4 0 (bytes wornMap ++ replicate 4 255) ∷ says 6 0 0 (replicate 75 255) ∷ []
 unfolding written laid over rowsOf mapOf linesOf answerBytes digitsOf byteOf
     call handOut takeBack live choose listed make serve fromCache fromList firstFit settled link unlink setLeft clearLeft markFree markUsed oneChunk

@@ -10,13 +10,14 @@ use mathlib.Core.Bool.{Bool, true, false}
 use mathlib.Core.List.{List, [], _∷_, _++_}
 use Prim.Native.Nat.{ℕ, zero, suc, _+_, _-_, _*_, _/_, _≤_, _<_}
 use native.Mathlib.Omega.{arith}
-use native.Mathlib.Decide.{ℕ-discrete}
 use lib.ListN.{length, drop, length-drop}
 use lib.Seq.{length-take-le}
 use borrow.Rule.Slice.PartMut.{midOf, putMid}
 use borrow.Author.Tests.{eq-eqb, ne-eqb}
 use Rattle.words.specs.Tags.{at, lengthOf, freeᵇ}
-use Rattle.audit.specs.Shown.{cachedOf}
+use Rattle.words.specs.Numbers.{numbers}
+use Rattle.cache.specs.Places.{cachedOf}
+use Rattle.cache.proofs.Laws.{listed-cached}
 use Rattle.rules.specs.Chunks.{Chunk, total}
 use Rattle.rules.specs.Rules.{says, listed}
 use Rattle.rules.specs.Place.{tile}
@@ -84,31 +85,23 @@ line-put room x i w k e n ew h ex =
 
 -- ---- THE KINDS
 
--- the chunk at byte e, where l is the cached one's link
-module _ (ws : List ℕ) (l e : ℕ) where
+-- the chunk at byte e, where xs are the links in the cache's places
+module _ (ws xs : List ℕ) (e : ℕ) where
   -- a free one
-  pub kind-free : (b : Bool) → b ≡ freeᵇ (at ws (e / 4)) → b ≡ true → 16 ≡ kindOf (cachedOf l) e (chunkAt ws e)
+  pub kind-free : (b : Bool) → b ≡ freeᵇ (at ws (e / 4)) → b ≡ true → 16 ≡ kindOf (cachedOf xs) e (chunkAt ws e)
   kind-free b eb h = let t : freeᵇ (at ws (e / 4)) ≡ true = sym eb ∙ h in rw t
 
-  -- the cached one
-  pub kind-cached : (b : Bool) → b ≡ freeᵇ (at ws (e / 4)) → b ≡ false → e / 4 + 6 ≡ l → 18 ≡ kindOf (cachedOf l) e (chunkAt ws e)
-  unfolding listed
-  kind-cached b eb h q =
-      let t : freeᵇ (at ws (e / 4)) ≡ false = sym eb ∙ h in
-      let n : l ≡ 0 → ⊥ = λ z. omega arith in
-      rw (t, ne-eqb l 0 n, eq-eqb _ _ q)
+  -- whether it is cached, by its link
+  known : (t d : Bool) → t ≡ listed (e / 4 + 6) xs → t ≡ d → listed (e / 4 + 6) (cachedOf xs) ≡ d
+  known t d et h = listed-cached (e / 4 + 6) xs (λ z. omega arith) ∙ sym et ∙ h
+
+  -- a cached one
+  pub kind-cached : (b t : Bool) → b ≡ freeᵇ (at ws (e / 4)) → b ≡ false → t ≡ listed (e / 4 + 6) xs → t ≡ true → 18 ≡ kindOf (cachedOf xs) e (chunkAt ws e)
+  kind-cached b t eb h et q = let f : freeᵇ (at ws (e / 4)) ≡ false = sym eb ∙ h in rw (f, known t true et q)
 
   -- any other used one
-  pub kind-live : (b : Bool) → b ≡ freeᵇ (at ws (e / 4)) → b ≡ false → (e / 4 + 6 ≡ l → ⊥) → 17 ≡ kindOf (cachedOf l) e (chunkAt ws e)
-  unfolding listed
-  kind-live b eb h q = go (ℕ-discrete l 0)
-    where
-      t : freeᵇ (at ws (e / 4)) ≡ false
-      t = sym eb ∙ h
-
-      go : Dec (l ≡ 0) → 17 ≡ kindOf (cachedOf l) e (chunkAt ws e)
-      go (yes z) = rw (t, eq-eqb l 0 z)
-      go (no n) = rw (t, ne-eqb l 0 n, ne-eqb _ _ q)
+  pub kind-live : (b t : Bool) → b ≡ freeᵇ (at ws (e / 4)) → b ≡ false → t ≡ listed (e / 4 + 6) xs → t ≡ false → 17 ≡ kindOf (cachedOf xs) e (chunkAt ws e)
+  kind-live b t eb h et q = let f : freeᵇ (at ws (e / 4)) ≡ false = sym eb ∙ h in rw (f, known t false et q)
 
 -- ---- A TURN OF THE WRITER
 
@@ -137,31 +130,31 @@ lines-out ks room e i cs z = ap (λ (c : List Chunk). overFrom i (linesOf (mapOf
 -- ---- THE CALL
 
 -- a sound heap's chunks end at its guard
-pub sound-short : (s : State) → soundAt s ≡ true → total (chunksIn (s .words)) ≤ 262112
+pub sound-short : (places : ℕ) (s : State) → soundAt places s ≡ true → total (chunksIn (s .words)) ≤ 262112
 unfolding chunksIn candidate
-sound-short s h =
-    let m = sound-true ours s h in
-    let q = shows-candidate ours s (m .0) (m .1) in
+sound-short places s h =
+    let m = sound-true (ours places) s h in
+    let q = shows-candidate (ours places) s (m .0) (m .1) in
     let f = q .fills in
     let a = q .accepted .1 in
     omega arith
 
 -- a record and its words, found sound, with n chunks
-module _ (r : Record) (ws room : List ℕ) (sound : soundAt (seen r ws) ≡ true) (n : ℕ) (en : n ≡ length (chunksIn ws)) where
+module _ (places : ℕ) (r : Record) (ws room : List ℕ) (sound : soundAt places (seen r ws) ≡ true) (n : ℕ) (en : n ≡ length (chunksIn ws)) where
   -- its rows, and their bytes
   rows : length (rowsOf (seen r ws)) ≡ n
   unfolding rowsOf chunksIn
-  rows = length-map (cachedOf (r .cached .0)) 0 (tile (at ws) (length ws) 0) ∙ sym en
+  rows = length-map (cachedOf (numbers (r .cached))) 0 (tile (at ws) (length ws) 0) ∙ sym en
 
   bytes : length (linesOf (rowsOf (seen r ws))) ≡ 19 * n
   bytes = length-lines (rowsOf (seen r ws)) ∙ ap (λ (k : ℕ). 19 * k) rows
 
   -- the room is too short
-  pub sound-no-room : length room / 19 < n → says 6 0 0 room ≡ written (seen r ws) room
-  sound-no-room q = sym (written-sound (seen r ws) room sound ∙ laid-short _ _ room (19 * n) bytes (omega arith))
+  pub sound-no-room : length room / 19 < n → says 6 0 0 room ≡ written places (seen r ws) room
+  sound-no-room q = sym (written-sound places (seen r ws) room sound ∙ laid-short _ _ room (19 * n) bytes (omega arith))
 
   -- the lines stand in the room
-  pub sound-done : (vs : List ℕ) → n ≤ length room / 19 → vs ≡ over (linesOf (mapOf (cachedOf (r .cached .0)) 0 (chunksIn ws))) room
-      → says 0 n 0 vs ≡ written (seen r ws) room
+  pub sound-done : (vs : List ℕ) → n ≤ length room / 19 → vs ≡ over (linesOf (mapOf (cachedOf (numbers (r .cached))) 0 (chunksIn ws))) room
+      → says 0 n 0 vs ≡ written places (seen r ws) room
   unfolding rowsOf chunksIn
-  sound-done vs q ev = rw (ev, ← rows) (sym (written-sound (seen r ws) room sound ∙ laid-fits _ _ room (19 * n) bytes (omega arith)))
+  sound-done vs q ev = rw (ev, ← rows) (sym (written-sound places (seen r ws) room sound ∙ laid-fits _ _ room (19 * n) bytes (omega arith)))

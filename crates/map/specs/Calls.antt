@@ -26,9 +26,9 @@ laid n xs room = pick (leb (length xs) (length room)) (says 0 n 0 (over xs room)
 unfoldable pub rowsOf : State → List Row
 rowsOf s = mapOf (s .rest .cached) 0 (tile (base .word s) (base .count s) 0)
 
--- WRITING the map of a state into lent bytes
-unfoldable pub written : State → List ℕ → Outcome (List ℕ)
-written s room = pick (soundAt s) (laid (length (rowsOf s)) (linesOf (rowsOf s)) room) (says 5 0 0 room)
+-- WRITING the map of a state with so many cache places into lent bytes
+unfoldable pub written : ℕ → State → List ℕ → Outcome (List ℕ)
+written places s room = pick (soundAt places s) (laid (length (rowsOf s)) (linesOf (rowsOf s)) room) (says 5 0 0 room)
 
 -- READING a map into lent words
 abbrev pub readInto : Read → List ℕ → Outcome (List ℕ)

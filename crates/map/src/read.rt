@@ -3,6 +3,7 @@
 ghost use mathlib.Core.Path.{_≡_};
 ghost use Prim.Native.Nat.{_+_, _*_, _^_, _≤_, _<_};
 ghost use lib.ListN.{length, take, drop};
+ghost use Rattle.heap.specs.Kind.{placesOf};
 ghost use Rattle.map.specs.Answer.{told};
 ghost use Rattle.map.specs.Reading.{rowIn, start, past, readFrom, readAll};
 ghost use Rattle.map.specs.Steps.{counted, wordsIn};
@@ -13,6 +14,7 @@ use super::rows::Place;
 use super::rows::Row;
 use super::rows::follows;
 use super::rows::read_row;
+use heap::Kind;
 
 // What trying the lines gives: how many rows they are, or the number of the first bad line, from 1.
 enum Checked {
@@ -35,7 +37,7 @@ fn line_at(lines: &[u8], i: usize) -> Line
 
 // The place after a row.
 fn place_after(p: Place, r: Row) -> Place
-    requires { ⌜ (p .at + r .len < 2 ^ 32) × (p .held < 2) ⌝ }
+    requires { ⌜ (p .at + r .len < 2 ^ 32) × (p .held < 5) ⌝ }
     ensures { λ q. ⌜ q ≡ past p r ⌝ }
 {
     let at = p.at + r.len;
@@ -48,8 +50,9 @@ fn place_after(p: Place, r: Row) -> Place
 }
 
 // Tries every line, from the first on.
-fn check_lines(lines: &[u8]) -> Checked
-    ensures { λ r. ⌜ r ≡ counted 0 (readFrom 65529 1 (length (now (lines .entry))) start 1 (now (lines .entry))) ⌝ }
+fn check_lines(lines: &[u8], places: usize) -> Checked
+    requires { ⌜ places ≤ 4 ⌝ }
+    ensures { λ r. ⌜ r ≡ counted 0 (readFrom 65529 places (length (now (lines .entry))) start 1 (now (lines .entry))) ⌝ }
 {
     let mut p = Place {
         at: 0,
@@ -63,7 +66,7 @@ fn check_lines(lines: &[u8]) -> Checked
         let Line::Good(r) = line else {
             return Checked::Wrong(n + 1);
         };
-        let fits = follows(p, r);
+        let fits = follows(p, r, places);
         if !fits {
             return Checked::Wrong(n + 1);
         }
@@ -92,14 +95,24 @@ fn lay_rows(lines: &[u8], n: usize, room: &mut [u32])
     }
 }
 
-// Reads lines into the room, three words for each chunk: 7 with the number of the first bad line, then 6 if the room is too short.
-pub fn read_map(lines: &[u8], room: &mut [u32]) -> Answer
-    ensures { λ r. ⌜ told r (now (room .exit)) ≡ readInto (readAll 65529 1 (now (lines .entry))) (now (room .entry)) ⌝ }
+// Reads lines into the room, three words for each chunk, for a heap of this kind: 7 with the number of the first bad line, then 6 if the room is
+// too short.
+pub fn read_map(lines: &[u8], room: &mut [u32], kind: Kind) -> Answer
+    ensures { λ r. ⌜ told r (now (room .exit)) ≡ readInto (readAll 65529 (placesOf kind) (now (lines .entry))) (now (room .entry)) ⌝ }
+{
+    let places = kind.places();
+    read_lines(lines, room, places)
+}
+
+// The same, for a heap with so many cache places.
+fn read_lines(lines: &[u8], room: &mut [u32], places: usize) -> Answer
+    requires { ⌜ places ≤ 4 ⌝ }
+    ensures { λ r. ⌜ told r (now (room .exit)) ≡ readInto (readAll 65529 places (now (lines .entry))) (now (room .entry)) ⌝ }
 {
     if lines.len() == 0 {
         return Answer::BadLine(1);
     }
-    let checked = check_lines(lines);
+    let checked = check_lines(lines, places);
     match checked {
         Checked::Wrong(k) => Answer::BadLine(k),
         Checked::Rows(n) => {

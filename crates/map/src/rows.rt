@@ -29,7 +29,7 @@ pub(crate) enum Line {
 pub(crate) struct Place {
     pub(crate) at: u32,
     pub(crate) free: bool,
-    pub(crate) held: u32,
+    pub(crate) held: usize,
 }
 
 // Reads a line, given with its line feed.
@@ -86,18 +86,18 @@ fn stands(at: u32, r: Row) -> bool
     true
 }
 
-// Whether a row can follow at this place, with one cache place.
-pub(crate) fn follows(p: Place, r: Row) -> bool
-    ensures { λ q. ⌜ q ≡ followsᵇ 65529 1 p r ⌝ }
+// Whether a row can follow at this place, with so many cache places.
+pub(crate) fn follows(p: Place, r: Row, places: usize) -> bool
+    ensures { λ q. ⌜ q ≡ followsᵇ 65529 places p r ⌝ }
 {
     let placed = stands(p.at, r);
     if !placed {
         return false;
     }
     if r.kind == 18 {
-        return p.held == 0;
+        return p.held < places;
     }
-    if 1 < p.held {
+    if places < p.held {
         return false;
     }
     if r.kind == 17 {

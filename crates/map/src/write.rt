@@ -2,7 +2,9 @@
 // Contracts cite specs/Calls.antt, and inside this file specs/Writing.antt.
 ghost use mathlib.Core.Path.{_≡_};
 ghost use lib.ListN.{length};
-ghost use Rattle.audit.specs.Shown.{cachedOf};
+ghost use Rattle.words.specs.Numbers.{numbers};
+ghost use Rattle.cache.specs.Places.{cachedOf};
+ghost use Rattle.heap.specs.Kind.{placesOf};
 ghost use Rattle.heap.specs.Seen.{seen};
 ghost use Rattle.map.specs.Answer.{told};
 ghost use Rattle.map.specs.Rows.{linesOf};
@@ -10,15 +12,16 @@ ghost use Rattle.map.specs.Layout.{kindOf, mapOf};
 ghost use Rattle.map.specs.Calls.{over, written};
 ghost use Rattle.map.specs.Writing.{chunksIn, chunkAt, Short, Roomy};
 use super::rows::Answer;
+use heap::Kind;
 use heap::Record;
 use words::Link;
 use words::WordIndex;
 
-// Writes the map of a heap at the start of the room: 5 if the heap is damaged, then 6 if the room is too short.
-pub fn write_map(rec: Record, heap: &[u32], room: &mut [u8]) -> Answer
-    ensures { λ r. ⌜ told r (now (room .exit)) ≡ written (seen rec (now (heap .entry))) (now (room .entry)) ⌝ }
+// Writes the map of a heap of this kind at the start of the room: 5 if the heap is damaged, then 6 if the room is too short.
+pub fn write_map(rec: Record, heap: &[u32], room: &mut [u8], kind: Kind) -> Answer
+    ensures { λ r. ⌜ told r (now (room .exit)) ≡ written (placesOf kind) (seen rec (now (heap .entry))) (now (room .entry)) ⌝ }
 {
-    let sound = rec.audit(heap);
+    let sound = rec.audit(heap, kind);
     if !sound {
         return Answer::Damaged;
     }
@@ -26,7 +29,8 @@ pub fn write_map(rec: Record, heap: &[u32], room: &mut [u8]) -> Answer
     if room.len() / 19 < n {
         return Answer::NoRoom;
     }
-    write_lines(heap, rec.cached, room);
+    let cached = rec.cached;
+    write_lines(heap, cached, room);
     Answer::Done(n)
 }
 
@@ -51,9 +55,9 @@ fn count_chunks(heap: &[u32]) -> usize
 }
 
 // Writes a line for each chunk, left to right, over the start of the room.
-fn write_lines(heap: &[u32], cached: Link, room: &mut [u8])
+fn write_lines(heap: &[u32], cached: [Link; 4], room: &mut [u8])
     requires { ⌜ Short (now heap) × Roomy (now heap) (now room) ⌝ }
-    ensures { λ _. ⌜ now (room .exit) ≡ over (linesOf (mapOf (cachedOf (cached .0)) 0 (chunksIn (now (heap .entry))))) (now (room .entry)) ⌝ }
+    ensures { λ _. ⌜ now (room .exit) ≡ over (linesOf (mapOf (cachedOf (numbers cached)) 0 (chunksIn (now (heap .entry))))) (now (room .entry)) ⌝ }
 {
     let mut fuel = heap.len();
     let mut e: u32 = 0;
@@ -72,14 +76,15 @@ fn write_lines(heap: &[u32], cached: Link, room: &mut [u8])
 }
 
 // The kind of the chunk whose header stands e bytes from the heap's start: 16 free, 17 live, 18 cached.
-fn kind_at(heap: &[u32], cached: Link, e: u32) -> u8
-    ensures { λ r. ⌜ r ≡ kindOf (cachedOf (cached .0)) e (chunkAt (now (heap .entry)) e) ⌝ }
+fn kind_at(heap: &[u32], cached: [Link; 4], e: u32) -> u8
+    ensures { λ r. ⌜ r ≡ kindOf (cachedOf (numbers cached)) e (chunkAt (now (heap .entry)) e) ⌝ }
 {
     let free = words::is_this_free(heap, WordIndex((e / 4) as usize));
     if free {
         return 16;
     }
-    if e / 4 + 6 == cached.0 as u32 {
+    let held = cache::holds(cached, e / 4 + 6);
+    if held {
         return 18;
     }
     17

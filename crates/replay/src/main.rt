@@ -1,11 +1,12 @@
 // The replay: answers frames as the trace program does, and after each answer prints the whole state of the heap in use, and its map.
 //
 // A state is a line of numbers, each eight digits after a space: the words of the heap, bytes in use, bytes committed, peak, high water, the
-// cached chunk's link (0 for none), the flag; the six prev and the six next links of the sentinels; then every word of the heap. The lines of
+// cached chunks' links, oldest first (0 for an unused place, and only one is used), the flag; the six prev and the six next links of the sentinels; then every word of the heap. The lines of
 // the map (W-201) come after it: one for each chunk, none before a heap is made. The file `stdin` holds requests, and `stdout` the original's
 // states and their maps after each, in the same form (tests/trace/README.md): the check of this crate compares them byte by byte.
 //
 // Reading is in crate `stream`. One byte is lent to a read, so that no more than one line is answered before its state is written.
+use heap::Kind;
 use heap::Record;
 use map::Answer;
 use stream::Stream;
@@ -14,8 +15,8 @@ use words::Link;
 fn main() {
     let mut memory = [0u32; 16383];
     let mut input = [0u8; 1];
-    // an answer line, 19 numbers of the record and 16,383 words of 9 bytes each, a line feed, and 4,095 lines of a map
-    let mut room = [0u8; 225443];
+    // an answer line, 22 numbers of the record and 16,383 words of 9 bytes each, a line feed, and 4,095 lines of a map
+    let mut room = [0u8; 225470];
     replay(&mut memory, &mut input, &mut room);
 }
 
@@ -23,7 +24,7 @@ fn main() {
 fn replay(memory: &mut [u32], input: &mut [u8], room: &mut [u8]) {
     let mut s = Stream::start();
     while s.more {
-        s = stream::next(s, memory, input, room);
+        s = stream::next(s, memory, input, room, Kind::One);
         if 0 < s.filled {
             let trace = s.trace;
             let end = show(room, s.filled, trace.rec, memory);
@@ -44,21 +45,25 @@ fn write(room: &[u8], n: usize) -> bool {
 
 // Puts the whole state on a line, and the map behind it. Where the room ends now, as after each put.
 fn show(room: &mut [u8], at: usize, rec: Record, memory: &[u32]) -> usize {
-    let flag = rec.fresh as u32;
+    let flag = rec.fresh;
+    let cached = rec.cached;
     let figures = [
         rec.words,
         rec.in_use,
         rec.committed,
         rec.peak,
         rec.high,
-        wide(rec.cached.0),
+        wide(cached[0].0),
+        wide(cached[1].0),
+        wide(cached[2].0),
+        wide(cached[3].0),
         flag,
     ];
     let prev = rec.prev;
     let next = rec.next;
     let prevs = numbers(prev);
     let nexts = numbers(next);
-    let first = put_words(room, at, &figures, 7);
+    let first = put_words(room, at, &figures, 10);
     let second = put_words(room, first, &prevs, 6);
     let third = put_words(room, second, &nexts, 6);
     let fourth = put_words(room, third, memory, rec.words as usize);
@@ -125,7 +130,7 @@ fn put_map(room: &mut [u8], at: usize, rec: Record, memory: &[u32]) -> usize {
         return at;
     }
     let left = room.len() - at;
-    let answer = map::write_map(rec, &memory[0..n], &mut room[at..]);
+    let answer = map::write_map(rec, &memory[0..n], &mut room[at..], Kind::One);
     let Answer::Done(chunks) = answer else {
         return at;
     };

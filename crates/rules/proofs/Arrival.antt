@@ -84,14 +84,11 @@ module _ {S : Type 0} {op : Ops S Figures} {most places : ℕ} (E : Edition op m
       (λ q. let u = h .cache .used x q .1 in let v = ap (usedAt (pre ++ free n ∷ post)) b ∙ free-there pre n post lp in omega arith)
 
   module _ (s : S) (m : Model) (h : Sh s m) where
-    abbrev sound : S → Bool
-    sound = soundᵇ op most places
-
     -- what is served, arrives
     abbrev Served : Outcome S → Outcome Model → Type 0
     Served o q = o .number ≡ 0 → Arrived (o .after) (q .after) (o .value)
 
-    listed-arrives : (z : ℕ) → 16 ≤ z → z % 8 ≡ 0 → (r : Found) → Fits (sizeM m) z (searched m z) r → Served (fromList op places sound s z r) (fromListM m z r)
+    listed-arrives : (z : ℕ) → 16 ≤ z → z % 8 ≡ 0 → (r : Found) → Fits (sizeM m) z (searched m z) r → Served (fromList op s z r) (fromListM m z r)
     unfolding fromList
     listed-arrives z z16 z8 (nowhere c) f = λ q. absurd (let u : _≡_ {A = ℕ} 3 0 = q in omega arith)
     listed-arrives z z16 z8 lost f = absurd f
@@ -105,25 +102,25 @@ module _ {S : Type 0} {op : Ops S Figures} {most places : ℕ} (E : Edition op m
         (tookM (record { cs = cs; orders = m .orders; figs = m .figs }) x (lenAt cs (byteOf x)) z) (byteOf x + 4))
         (sym (g .is)) (λ w. took-arrives s (g .pre) (r .0) (g .post) (m .orders) (m .figs) x z z16 z8 (g .named) w) h
 
-    serve-arrives : (z : ℕ) → 16 ≤ z → z % 8 ≡ 0 → Served (serve op places sound s z) (fromCacheM m z (choose (sizeM m) z (m .figs .cached)))
+    serve-arrives : (z : ℕ) → 16 ≤ z → z % 8 ≡ 0 → Served (serve op s z) (fromCacheM m z (choose (sizeM m) z (m .figs .cached)))
     unfolding serve fromCache
     serve-arrives z z16 z8 = rw (choose-cached E s m h z) (go (choose (sizeM m) z (m .figs .cached)) (choose-picked (sizeM m) z (m .figs .cached)))
       where
-        go : (c : Chosen) → Picked (sizeM m) z (m .figs .cached) c → Served (fromCache op places sound s z c) (fromCacheM m z c)
+        go : (c : Chosen) → Picked (sizeM m) z (m .figs .cached) c → Served (fromCache op s z c) (fromCacheM m z c)
         go (one x ks) p = λ q.
             let u = h .cache .used x (p .1) in
             let up = u .1 in
             let y = used-size E s m h x (u .0) (u .1) in
             let d = p .3 (h .cache .once) in
             emptied-arrives _ _ (uncached E s m h z x ks p) x (lengthAt op s x) (u .0) (sym y) (omega arith) (d .0)
-        go none p = rw (search-same E s m h sound z) (listed-arrives z z16 z8 (searchM m z) (find-fits (sizeM m) z (searched m z) 0))
+        go none p = rw (search-same E s m h z) (listed-arrives z z16 z8 (searchM m z) (find-fits (sizeM m) z (searched m z) 0))
 
     hand-arrives : (size : ℕ) → Served (hand op most places s size) (handOutM m size)
     unfolding handOut handOutM
     hand-arrives size = rw (true-sound E s (m, h)) (go (eqb size 0) (ltb 4294967284 size))
       where
         go : (a b : Bool)
-            → Served (pick a (says 1 0 0 s) (pick b (says 2 0 0 s) (serve op places sound s (roundedOf size))))
+            → Served (pick a (says 1 0 0 s) (pick b (says 2 0 0 s) (serve op s (roundedOf size))))
             (pick a (says 1 0 0 m) (pick b (says 2 0 0 m) (fromCacheM m (roundedOf size) (choose (sizeM m) (roundedOf size) (m .figs .cached)))))
         go true b = λ q. absurd (let u : _≡_ {A = ℕ} 1 0 = q in omega arith)
         go false true = λ q. absurd (let u : _≡_ {A = ℕ} 2 0 = q in omega arith)

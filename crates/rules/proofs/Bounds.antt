@@ -158,12 +158,12 @@ module _ {S : Type 0} {op : Ops S Figures} {most places : ℕ} (E : Edition op m
         let f = few E s m h in
         omega arith
 
-    pub never-lost : (sound : S → Bool) (z : ℕ) → firstFit op places sound s z ≡ lost → ⊥
-    never-lost sound z e = subst (Fits (sizeM m) z (searched m z)) (sym (search-same E s m h sound z) ∙ e) (find-fits (sizeM m) z (searched m z) 0)
+    pub never-lost : (z : ℕ) → firstFit op s z ≡ lost → ⊥
+    never-lost z e = subst (Fits (sizeM m) z (searched m z)) (sym (search-same E s m h z) ∙ e) (find-fits (sizeM m) z (searched m z) 0)
 
-    pub nowhere-short : (sound : S → Bool) (z c : ℕ) → firstFit op places sound s z ≡ nowhere c → c ≤ op .count s / 4
-    nowhere-short sound z c e =
-        let q : c ≡ 0 + length (searched m z) = subst (Counts (sizeM m) z (searched m z) 0) (sym (search-same E s m h sound z) ∙ e)
+    pub nowhere-short : (z c : ℕ) → firstFit op s z ≡ nowhere c → c ≤ op .count s / 4
+    nowhere-short z c e =
+        let q : c ≡ 0 + length (searched m z) = subst (Counts (sizeM m) z (searched m z) 0) (sym (search-same E s m h z) ∙ e)
         (find-counts (sizeM m) z (searched m z) 0) in
         met-few z c (omega arith)
 
@@ -197,9 +197,9 @@ module _ {S : Type 0} {op : Ops S Figures} {most places : ℕ} (E : Edition op m
           counted = cn;
         }
 
-    pub found-fits : (sound : S → Bool) (z x c : ℕ) → firstFit op places sound s z ≡ at x c → FoundFits op s z x c
-    found-fits sound z x c e =
-        let q = sym (search-same E s m h sound z) ∙ e in
+    pub found-fits : (z x c : ℕ) → firstFit op s z ≡ at x c → FoundFits op s z x c
+    found-fits z x c e =
+        let q = sym (search-same E s m h z) ∙ e in
         let f : Mem x (searched m z) × (z ≤ sizeM m x) = subst (Fits (sizeM m) z (searched m z)) q (find-fits (sizeM m) z (searched m z) 0) in
         let k : Counts (sizeM m) z (searched m z) 0 (at x c) = subst (Counts (sizeM m) z (searched m z) 0) q (find-counts (sizeM m) z (searched m z) 0) in
         let r = met-free E s m h z x (f .0) in
@@ -273,9 +273,9 @@ module _ {S : Type 0} {op : Ops S Figures} {most places : ℕ} (E : Edition op m
 
     -- ---- taking back
 
-    pub live-fits : (sound : S → Bool) (p : ℕ) → live op places sound s p ≢ 0 → LiveFits op s p
-    live-fits sound p q =
-        let v = live-is E sound s m h p (λ e. q (live-same E sound s m h p ∙ e)) in
+    pub live-fits : (p : ℕ) → live op s p ≢ 0 → LiveFits op s p
+    live-fits p q =
+        let v = live-is E s m h p (λ e. q (live-same E s m h p ∙ e)) in
         let w = v .1 in
         let u = used-at (m .cs) (p - 4) (omega arith) in
         let lg = subst Legal (u .is) (h .legal) in
@@ -287,18 +287,18 @@ module _ {S : Type 0} {op : Ops S Figures} {most places : ℕ} (E : Edition op m
         let p4 = v .3 in
         record { low = p4; eights = omega arith; inside = omega arith }
 
-    pub live-held : (sound : S → Bool) (p : ℕ) → live op places sound s p ≢ 0 → live op places sound s p ≤ op .rest s .inUse
-    live-held sound p q =
-        let e = live-same E sound s m h p in
-        let l = live-last E sound s m h p (λ r. q (e ∙ r)) in
+    pub live-held : (p : ℕ) → live op s p ≢ 0 → live op s p ≤ op .rest s .inUse
+    live-held p q =
+        let e = live-same E s m h p in
+        let l = live-last E s m h p (λ r. q (e ∙ r)) in
         let f : op .rest s .inUse ≡ m .figs .inUse = ap (λ (r : Figures). r .inUse) (h .figs) in
         omega arith
 
     -- a live chunk's own header and neighbours, as of a cached one: with no cache place it is released at once
-    pub live-place : (sound : S → Bool) (p : ℕ) → live op places sound s p ≢ 0
+    pub live-place : (p : ℕ) → live op s p ≢ 0
         → CachedFits op s (nameOf (p - 4)) × ReleaseFits op s (nameOf (p - 4) - 6) (lengthAt op s (nameOf (p - 4)))
-    live-place sound p q =
-        let v = live-is E sound s m h p (λ e. q (live-same E sound s m h p ∙ e)) in
+    live-place p q =
+        let v = live-is E s m h p (λ e. q (live-same E s m h p ∙ e)) in
         used-place (nameOf (p - 4)) (omega arith) (subst (λ (b : ℕ). 0 < usedAt (m .cs) b) (sym (v .0)) (v .1))
 
   -- the same of a state that the test says yes to
@@ -307,16 +307,16 @@ module _ {S : Type 0} {op : Ops S Figures} {most places : ℕ} (E : Edition op m
     figures-fitᵇ = let h = sound-true E s ok in figures-fit s (h .0) (h .1)
 
     -- the search as the code walks finds what the rules' search finds
-    pub walked-fitᵇ : (sound : S → Bool) (z : ℕ) → walkedFit op s z ≡ firstFit op places sound s z
-    walked-fitᵇ sound z = let h = sound-true E s ok in walked-same E s (h .0) (h .1) z ∙ sym (search-same E s (h .0) (h .1) sound z)
+    pub walked-fitᵇ : (z : ℕ) → walkedFit op s z ≡ firstFit op s z
+    walked-fitᵇ z = let h = sound-true E s ok in walked-same E s (h .0) (h .1) z ∙ sym (search-same E s (h .0) (h .1) z)
 
-    pub never-lostᵇ : (sound : S → Bool) (z : ℕ) → firstFit op places sound s z ≡ lost → ⊥
+    pub never-lostᵇ : (z : ℕ) → firstFit op s z ≡ lost → ⊥
     never-lostᵇ = let h = sound-true E s ok in never-lost s (h .0) (h .1)
 
-    pub nowhere-shortᵇ : (sound : S → Bool) (z c : ℕ) → firstFit op places sound s z ≡ nowhere c → c ≤ op .count s / 4
+    pub nowhere-shortᵇ : (z c : ℕ) → firstFit op s z ≡ nowhere c → c ≤ op .count s / 4
     nowhere-shortᵇ = let h = sound-true E s ok in nowhere-short s (h .0) (h .1)
 
-    pub found-fitsᵇ : (sound : S → Bool) (z x c : ℕ) → firstFit op places sound s z ≡ at x c → FoundFits op s z x c
+    pub found-fitsᵇ : (z x c : ℕ) → firstFit op s z ≡ at x c → FoundFits op s z x c
     found-fitsᵇ = let h = sound-true E s ok in found-fits s (h .0) (h .1)
 
     pub cached-fitsᵇ : (x : ℕ) → Mem x (op .rest s .cached) → CachedFits op s x
@@ -328,12 +328,12 @@ module _ {S : Type 0} {op : Ops S Figures} {most places : ℕ} (E : Edition op m
     pub cached-heldᵇ : (x : ℕ) → Mem x (op .rest s .cached) → op .rest s .inUse + lengthAt op s x ≤ op .rest s .committed
     cached-heldᵇ = let h = sound-true E s ok in cached-held s (h .0) (h .1)
 
-    pub live-heldᵇ : (sound : S → Bool) (p : ℕ) → live op places sound s p ≢ 0 → live op places sound s p ≤ op .rest s .inUse
+    pub live-heldᵇ : (p : ℕ) → live op s p ≢ 0 → live op s p ≤ op .rest s .inUse
     live-heldᵇ = let h = sound-true E s ok in live-held s (h .0) (h .1)
 
-    pub live-fitsᵇ : (sound : S → Bool) (p : ℕ) → live op places sound s p ≢ 0 → LiveFits op s p
+    pub live-fitsᵇ : (p : ℕ) → live op s p ≢ 0 → LiveFits op s p
     live-fitsᵇ = let h = sound-true E s ok in live-fits s (h .0) (h .1)
 
-    pub live-placeᵇ : (sound : S → Bool) (p : ℕ) → live op places sound s p ≢ 0
+    pub live-placeᵇ : (p : ℕ) → live op s p ≢ 0
         → CachedFits op s (nameOf (p - 4)) × ReleaseFits op s (nameOf (p - 4) - 6) (lengthAt op s (nameOf (p - 4)))
     live-placeᵇ = let h = sound-true E s ok in live-place s (h .0) (h .1)

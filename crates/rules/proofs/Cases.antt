@@ -22,13 +22,13 @@ module _ {S : Type 0} (op : Ops S Figures) (places : ℕ) (sound : S → Bool) (
   -- HANDING OUT: 1, 2, 5, or served
   pub hand-cases : (size : ℕ) (P : Outcome S → Type 0) → (size ≡ 0 → P (says 1 0 0 s)) → (4294967284 < size → P (says 2 0 0 s))
       → (0 < size → size ≤ 4294967284 → sound s ≡ false → P (says 5 0 0 s)) →
-      (0 < size → size ≤ 4294967284 → sound s ≡ true → P (serve op places sound s (roundedOf size)))
-      → P (handOut op places sound s size)
+      (0 < size → size ≤ 4294967284 → sound s ≡ true → P (serve op s (roundedOf size)))
+      → P (handOut op sound s size)
   unfolding handOut
   hand-cases size P zero large bad fine = go (eqb size 0) refl (ltb 4294967284 size) refl (sound s) refl
     where
       go : (a : Bool) → eqb size 0 ≡ a → (b : Bool) → ltb 4294967284 size ≡ b → (t : Bool) → sound s ≡ t
-          → P (pick a (says 1 0 0 s) (pick b (says 2 0 0 s) (pick t (serve op places sound s (roundedOf size)) (says 5 0 0 s))))
+          → P (pick a (says 1 0 0 s) (pick b (says 2 0 0 s) (pick t (serve op s (roundedOf size)) (says 5 0 0 s))))
       go true e b f t g = zero (eqb-true size 0 e)
       go false e true f t g = large (ltb-true 4294967284 size f)
       go false e false f false g = let n = eqb-false size 0 e in bad (omega arith) (ltb-false 4294967284 size f) g
@@ -37,32 +37,32 @@ module _ {S : Type 0} (op : Ops S Figures) (places : ℕ) (sound : S → Bool) (
   -- served: from the cache or a list; or no fit; or the search is lost
   pub serve-cases : (z : ℕ) (P : Outcome S → Type 0) → ((x : ℕ) (t : S) → P (says 0 (byteOf x + 4) 0 t)) → ((x c : ℕ) (t : S) → P (says 0 (byteOf x + 4) c t))
       → ((c : ℕ) → P (says 3 0 c s)) → P (says 5 0 0 s)
-      → P (serve op places sound s z)
+      → P (serve op s z)
   unfolding serve fromCache fromList
   serve-cases z P cache list short off = served (choose (lengthAt op s) z (op .rest s .cached))
     where
-      listed : (r : Found) → P (fromList op places sound s z r)
+      listed : (r : Found) → P (fromList op s z r)
       listed (at x c) = list x c _
       listed (nowhere c) = short c
       listed lost = off
 
-      served : (c : Chosen) → P (fromCache op places sound s z c)
+      served : (c : Chosen) → P (fromCache op s z c)
       served (one x ks) = cache x _
-      served none = listed (firstFit op places sound s z)
+      served none = listed (firstFit op s z)
 
   -- TAKING BACK: 5, 4, or done
-  pub back-cases : (p : ℕ) (P : Outcome S → Type 0) → (sound s ≡ false → P (says 5 0 0 s)) → (sound s ≡ true → live op places sound s p ≡ 0 → P (says 4 0 0 s))
-      → (sound s ≡ true → live op places sound s p ≢ 0 → P
-      (says 0 0 0 (settled op places sound s (op .rest s .inUse - live op places sound s p) (op .rest s .cached ++ nameOf (p - 4) ∷ [])))) → P
+  pub back-cases : (p : ℕ) (P : Outcome S → Type 0) → (sound s ≡ false → P (says 5 0 0 s)) → (sound s ≡ true → live op s p ≡ 0 → P (says 4 0 0 s))
+      → (sound s ≡ true → live op s p ≢ 0 → P
+      (says 0 0 0 (settled op places s (op .rest s .inUse - live op s p) (op .rest s .cached ++ nameOf (p - 4) ∷ [])))) → P
       (takeBack op places sound s p)
   unfolding takeBack
-  back-cases p P bad cold done = go (sound s) refl (eqb (live op places sound s p) 0) refl
+  back-cases p P bad cold done = go (sound s) refl (eqb (live op s p) 0) refl
     where
-      go : (t : Bool) → sound s ≡ t → (v : Bool) → eqb (live op places sound s p) 0 ≡ v
+      go : (t : Bool) → sound s ≡ t → (v : Bool) → eqb (live op s p) 0 ≡ v
           → P (pick t (pick v (says 4 0 0 s) (says 0 0 0
-          (settled op places sound s (op .rest s .inUse - live op places sound s p) (op .rest s .cached ++ nameOf (p - 4) ∷ [])))) (says 5 0 0 s))
-      go true e true f = cold e (eqb-true (live op places sound s p) 0 f)
-      go true e false f = done e (eqb-false (live op places sound s p) 0 f)
+          (settled op places s (op .rest s .inUse - live op s p) (op .rest s .cached ++ nameOf (p - 4) ∷ [])))) (says 5 0 0 s))
+      go true e true f = cold e (eqb-true (live op s p) 0 f)
+      go true e false f = done e (eqb-false (live op s p) 0 f)
       go false e v f = bad e
 
 module _ (m : Model) where

@@ -292,3 +292,28 @@ module _ {S : Type 0} {op : Ops S Figures} {most places : ℕ} (E : Edition op m
 
   pub figures-unique : (s : S) (m n : Model) → Shows op most places s m → Shows op most places s n → m .figs ≡ n .figs
   figures-unique s m n h g = sym (h .figs) ∙ g .figs
+
+-- MORE PLACES: a state that is sound with p places is sound with more
+pub shows-more : {S : Type 0} (op : Ops S Figures) (most p q : ℕ) (s : S) (m : Model) → p ≤ q → Shows op most p s m → Shows op most q s m
+shows-more op most p q s m le h =
+    let r = h .cache .room in
+    record {
+      six = h .six;
+      figs = h .figs;
+      words = h .words;
+      accepted = h .accepted;
+      legal = h .legal;
+      fills = h .fills;
+      tags = h .tags;
+      calm = h .calm;
+      lists = h .lists;
+      exact = h .exact;
+      cache = record { used = h .cache .used; once = h .cache .once; room = omega arith };
+      right = h .right;
+    }
+
+pub sound-more : {S : Type 0} {op : Ops S Figures} {most p q : ℕ} → Edition op most p → Edition op most q → p ≤ q → (s : S)
+    → soundᵇ op most p s ≡ true → soundᵇ op most q s ≡ true
+sound-more {op = op} {most = most} {p = p} {q = q} E F le s e =
+    let h = sound-true E s e in
+    true-sound F s (h .0, shows-more op most p q s (h .0) le (h .1))

@@ -154,7 +154,7 @@ module _ {S : Type 0} {op : Ops S Figures} {most places : ℕ} (E : Edition op m
       place : (s : S) (p : ℕ) (m : Model) (h : Shows op most places s m) → 0 < liveAt op most places s p → Edge op most places s (p - 4)
       place s p m h a =
           let e = live-shown E s m h p in
-          let w = live-is E (soundᵇ op most places) s m h p (λ z. (let y = a in omega arith)) in
+          let w = live-is E s m h p (λ z. (let y = a in omega arith)) in
           let u = used-at (m .cs) (p - 4) (let y = w .1 in omega arith) in
           record { shows = m; abs = h; pre = u .pre; post = busy (usedAt (m .cs) (p - 4)) ∷ u .post; is = u .is; byte = u .byte }
 

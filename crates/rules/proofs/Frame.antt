@@ -110,7 +110,7 @@ module _ {S : Type 0} {op : Ops S Figures} {most places : ℕ} (E : Edition op m
             (λ (t : ℕ). (byteOf x + sizeM m t) / 4) n) o
 
         list : (r : Found) → Fits (sizeM m) (roundedOf size) (searched m (roundedOf size)) r → Wrote
-            (fromList op places (soundᵇ op most places) s (roundedOf size) r)
+            (fromList op s (roundedOf size) r)
         list (nowhere c) f o = refl
         list lost f o = refl
         list (at x c) f o =
@@ -127,7 +127,7 @@ module _ {S : Type 0} {op : Ops S Figures} {most places : ℕ} (E : Edition op m
             (outside-same (ap (λ (t : ℕ). t / 4) b0) (ap (λ (t : ℕ). (t + sizeM m x) / 4) b0 ∙ ap (λ (t : ℕ). (0 + total (g .pre) + t) / 4) sz)
             (named x (omega arith) o))
 
-        served : (c : Chosen) → Picked (sizeM m) (roundedOf size) (m .figs .cached) c → Wrote (fromCache op places (soundᵇ op most places) s (roundedOf size) c)
+        served : (c : Chosen) → Picked (sizeM m) (roundedOf size) (m .figs .cached) c → Wrote (fromCache op s (roundedOf size) c)
         served (one x ks) p = λ o.
             let u = h .cache .used x (p .1) in
             let x6 = u .0 in
@@ -146,11 +146,11 @@ module _ {S : Type 0} {op : Ops S Figures} {most places : ℕ} (E : Edition op m
                 let u = used-at (m .cs) (byteOf x) (omega arith) in
                 (legal-back (u .pre) (busy (usedAt (m .cs) (byteOf x)) ∷ u .post) (subst Legal (u .is) (h .legal))) .0
         served none p =
-            rw (search-same E s m h (soundᵇ op most places) (roundedOf size))
+            rw (search-same E s m h (roundedOf size))
             (list (searchM m (roundedOf size)) (find-fits (sizeM m) (roundedOf size) (searched m (roundedOf size)) 0))
 
         go : (a b : Bool) → Wrote (pick a (says 1 0 0 s)
-            (pick b (says 2 0 0 s) (fromCache op places (soundᵇ op most places) s (roundedOf size)
+            (pick b (says 2 0 0 s) (fromCache op s (roundedOf size)
             (choose (lengthAt op s) (roundedOf size) (op .rest s .cached)))))
         go true b = λ o. refl
         go false true = λ o. refl
@@ -199,10 +199,10 @@ module _ {S : Type 0} {op : Ops S Figures} {most places : ℕ} (E : Edition op m
         → Outside ((total pre - freeLast 0 pre) / 4) ((total pre + n + freeHead post) / 4) i
         → op .word (back op most places s p .after) i ≡ op .word s i
     unfolding takeBack settled
-    back-only p k n ks pre post is cs bk o = rw (true-sound E s (m, h), live-same E (soundᵇ op most places) s m h p, h .figs, is) (go (eqb (liveM m p) 0) refl)
+    back-only p k n ks pre post is cs bk o = rw (true-sound E s (m, h), live-same E s m h p, h .figs, is) (go (eqb (liveM m p) 0) refl)
       where
         k6 : liveM m p ≢ 0 → 6 ≤ k
-        k6 a = snoc-used E (soundᵇ op most places) s m h p a k (subst (λ (t : List ℕ). Mem k t) (sym is) (List·Memᴰ·head refl)) .0
+        k6 a = snoc-used E s m h p a k (subst (λ (t : List ℕ). Mem k t) (sym is) (List·Memᴰ·head refl)) .0
 
         on : liveM m p ≢ 0 → (t : Bool) → op .word (pick t (op .setRest s (withCached (m .figs) (m .figs .inUse - liveM m p) (k ∷ ks)))
             (op .setRest (releaseChunk op s (k - 6) (lengthAt op s k)) (released (m .figs) (m .figs .inUse - liveM m p) ks (lengthAt op s k)))) i ≡ op .word s i
@@ -211,7 +211,7 @@ module _ {S : Type 0} {op : Ops S Figures} {most places : ℕ} (E : Edition op m
 
         go : (t : Bool) → eqb (liveM m p) 0 ≡ t
             → op .word ((pick t (says 4 0 0 s) (says 0 0 0
-            (settled op places (soundᵇ op most places) s (m .figs .inUse - liveM m p) (k ∷ ks)))) .after) i ≡ op .word s i
+            (settled op places s (m .figs .inUse - liveM m p) (k ∷ ks)))) .after) i ≡ op .word s i
         go true e = refl
         go false e = rw (h .figs) (on (eqb-false (liveM m p) 0 e) (leb (length (k ∷ ks)) places))
 
@@ -225,8 +225,8 @@ module _ {S : Type 0} {op : Ops S Figures} {most places : ℕ} (E : Edition op m
       let h = k .1 in
       let e = live-shown E s m h p in
       let alive : liveM m p ≢ 0 = (λ z. (let y = a in omega arith)) in
-      let v = live-is E (soundᵇ op most places) s m h p alive in
-      let n = live-len E (soundᵇ op most places) s m h p alive in
+      let v = live-is E s m h p alive in
+      let n = live-len E s m h p alive in
       let u = used-at (m .cs) (p - 4) (let y = v .1 in omega arith) in
       (m, h, (p, usedAt (m .cs) (p - 4), (v .3, u, v .2), subst (λ (t : ℕ). Holds p t i) (e ∙ n) w))
 

@@ -19,6 +19,8 @@ use Rattle.rules.specs.Orders.{freeHead, freeLast}
 use Rattle.rules.proofs.Release.{Ends, closed, open′, ends, freeLast-snoc, right-cases}
 use Rattle.rules.proofs.Live.{Payload}
 use Rattle.rules.proofs.Keep.{Off, Out}
+use Rattle.rules.specs.Machine.{Model}
+use Rattle.rules.specs.Demands.{LiveWord}
 
 hd : Chunk → List Chunk → Chunk
 hd d [] = d
@@ -27,6 +29,16 @@ hd d (c ∷ cs) = c
 tl : List Chunk → List Chunk
 tl [] = []
 tl (c ∷ cs) = cs
+
+-- a live word lies in the payload of a used chunk
+unfoldable pub payload : (m : Model) (i : ℕ) → LiveWord m i → Payload (m .cs) i
+payload m i l =
+    let u = l .2 .1 in
+    let b = u .byte in
+    let p4 = l .2 .0 in
+    let lo = l .3 .0 in
+    let hi = l .3 .1 in
+    record { pre = u .pre; size = l .1; post = u .post; is = u .is; low = omega arith; high = omega arith }
 
 -- two chunks of one layout: they are the same one, or a word inside the second is outside the first
 two-out : (b : ℕ) (X : List Chunk) (c : Chunk) (Y P : List Chunk) (d : Chunk) (Q : List Chunk) (i : ℕ) → X ++ c ∷ Y ≡ P ++ d ∷ Q → (b + total P) / 4 < i

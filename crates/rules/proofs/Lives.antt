@@ -307,7 +307,7 @@ module _ {S : Type 0} {op : Ops S Figures} {most places : ℕ} (E : Edition op m
   -- TAKEN BACK
   module _ (p : ℕ) (alive : liveM m p ≢ 0) where
     v : (byteOf (nameOf (p - 4)) ≡ p - 4) × (0 < usedAt (m .cs) (p - 4)) × (Mem (nameOf (p - 4)) (m .figs .cached) → ⊥) × (4 ≤ p)
-    v = live-is E (soundᵇ op most places) s m h p alive
+    v = live-is E s m h p alive
 
     p8 : (p - 4) % 8 ≡ 0
     p8 = used-8 (m .cs) (p - 4) (h .legal) (let q = v .1 in λ e. omega arith)
@@ -356,7 +356,7 @@ module _ {S : Type 0} {op : Ops S Figures} {most places : ℕ} (E : Edition op m
       oldest-released : GoneM m G p
       unfolding gaveM
       oldest-released =
-          let ku = snoc-used E (soundᵇ op most places) s m h p alive k (subst (λ (t : List ℕ). Mem k t) (sym is) (List·Memᴰ·head refl)) in
+          let ku = snoc-used E s m h p alive k (subst (λ (t : List ℕ). Mem k t) (sym is) (List·Memᴰ·head refl)) in
           let kn : usedAt (m .cs) (byteOf k) ≢ 0 = (let w = ku .1 in λ e. omega arith) in
           let u = used-at (m .cs) (byteOf k) kn in
           let n = usedAt (m .cs) (byteOf k) in
@@ -417,9 +417,9 @@ module _ {S : Type 0} {op : Ops S Figures} {most places : ℕ} (E : Edition op m
   -- PLACES
   placed : (p : ℕ) → liveM m p ≢ 0 → (4 ≤ p) × (p % 8 ≡ 4) × (16 ≤ liveM m p) × (liveM m p % 8 ≡ 0) × (p + liveM m p ≤ 4 * op .count s)
   placed p a =
-      let w = live-is E (soundᵇ op most places) s m h p a in
+      let w = live-is E s m h p a in
       let p4 = w .3 in
-      let n = live-len E (soundᵇ op most places) s m h p a in
+      let n = live-len E s m h p a in
       let k : usedAt (m .cs) (p - 4) ≢ 0 = (let q = w .1 in λ e. omega arith) in
       let u = used-at (m .cs) (p - 4) k in
       let c = usedAt (m .cs) (p - 4) in
@@ -437,10 +437,10 @@ module _ {S : Type 0} {op : Ops S Figures} {most places : ℕ} (E : Edition op m
   -- of two used chunks the lower one ends where the other begins, or before
   separate : (p q : ℕ) → liveM m p ≢ 0 → liveM m q ≢ 0 → p < q → p + liveM m p ≤ q
   separate p q a b lt =
-      let wp = live-is E (soundᵇ op most places) s m h p a in
-      let wq = live-is E (soundᵇ op most places) s m h q b in
+      let wp = live-is E s m h p a in
+      let wq = live-is E s m h q b in
       let p4 = wp .3 in
-      let n = live-len E (soundᵇ op most places) s m h p a in
+      let n = live-len E s m h p a in
       let k : usedAt (m .cs) (p - 4) ≢ 0 = (let t = wp .1 in λ e. omega arith) in
       let u = used-at (m .cs) (p - 4) k in
       let c = usedAt (m .cs) (p - 4) in
@@ -475,7 +475,7 @@ module _ {S : Type 0} {op : Ops S Figures} {most places : ℕ} (E : Edition op m
 
   -- live as the model tells it
   pub live-shown : (s : S) (m : Model) → Shows op most places s m → (q : ℕ) → liveAt op most places s q ≡ liveM m q
-  live-shown s m h q = live-same E (soundᵇ op most places) s m h q
+  live-shown s m h q = live-same E s m h q
 
   -- a handout, on states
   pub handed-out : HandedOut op most places

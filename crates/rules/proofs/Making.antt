@@ -21,6 +21,7 @@ use Rattle.rules.specs.State.{ops}
 use Rattle.rules.specs.Chunks.{free}
 use Rattle.rules.specs.Place.{usedAt}
 use Rattle.rules.specs.Rules.{Figures, Outcome, says}
+use Rattle.rules.specs.Kind.{one}
 use Rattle.rules.specs.Making.{State, acceptedᵇ, make, empty, fresh}
 use Rattle.rules.specs.Machine.{madeM}
 use Rattle.rules.specs.Lives.{NoneLive}
@@ -145,8 +146,8 @@ wide-none-live places = none-live wide-lawful 4194303 places wide-fits
 
 -- 6, with narrow links
 pub narrow-six : SixExactly narrow 65529
-narrow-six = six-exactly narrow-lawful 65529 1 narrow-fits
+narrow-six = six-exactly narrow-lawful 65529 (one .places) narrow-fits
 
 -- 6, with wide links
 pub wide-six : SixExactly wide 4194303
-wide-six = six-exactly wide-lawful 4194303 1 wide-fits
+wide-six = six-exactly wide-lawful 4194303 (one .places) wide-fits

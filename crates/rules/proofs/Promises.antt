@@ -197,7 +197,7 @@ module _ {S : Type 0} {op : Ops S Figures} {most places : ℕ} (E : Edition op m
       rw (f .after .figs, live-shown E s m h p, h .figs)
       (backM-cases m places p (λ o. o .number ≡ 0 → Kept m o) (λ e z. absurd (let u : _≡_ {A = ℕ} 4 0 = z in omega arith))
       (λ a z. settles m a (m .figs .cached ++ nameOf (p - 4) ∷ []) (Memᴰ·append-right (m .figs .cached) (List·Memᴰ·head refl))
-      (let r = live-last E (soundᵇ op most places) s m h p a in omega arith)) (sym (f .number) ∙ n))
+      (let r = live-last E s m h p a in omega arith)) (sym (f .number) ∙ n))
     where
       Kept : Model → Outcome Model → Type 0
       Kept m o = (o .after .figs .inUse + liveM m p ≡ m .figs .inUse) × (o .after .figs .peak ≡ m .figs .peak) × (o .after .figs .high ≡ m .figs .high) ×

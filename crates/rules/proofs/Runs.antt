@@ -5,7 +5,6 @@ use mathlib.Core.Bool.{Bool, true, false}
 use mathlib.Core.List.{List, [], _∷_, _++_, List·Memᴰ·head, List·Memᴰ·append-cases, List·Memᴰ·eq-of-singleton}
 use Prim.Native.Nat.{ℕ, _+_, _-_, _*_, _/_, _%_, _≤_, _<_}
 use native.Mathlib.Omega.{arith}
-use native.Mathlib.Nat.{zero-add}
 use lib.Dec.{eqb, leb, ltb}
 use lib.ListN.{length}
 use borrow.Author.Tests.{eqb-false}
@@ -14,20 +13,19 @@ use Rattle.rules.specs.Lists.{Mem}
 use Rattle.rules.proofs.Seg.{seg-agree}
 use Rattle.rules.specs.Ops.{Ops}
 use Rattle.rules.specs.Steps.{portion, lengthAt, takeChunk, emptied, releaseChunk, oneChunk}
-use Rattle.rules.proofs.Bytes.{releaseStep, take-words, release-words}
-use Rattle.rules.specs.Chunks.{Chunk, free, busy, total, Calm, release}
+use Rattle.rules.proofs.Bytes.{take-words}
+use Rattle.rules.specs.Chunks.{Chunk, free, busy, total}
 use Rattle.rules.specs.Exact.{slot}
 use Rattle.rules.proofs.Tags.{tags-agree, calm-left}
 use Rattle.rules.proofs.Part.{legal-front, legal-back}
-use Rattle.rules.proofs.Calls.{Whole}
 use Rattle.rules.proofs.Emptying.{emptied-out}
-use Rattle.rules.proofs.Keep.{Out, take-keeps, release-keeps}
-use Rattle.rules.proofs.KeepLive.{payload-off, payload-out, payload-other, shape, shape-out}
+use Rattle.rules.proofs.Keep.{Out, take-keeps}
+use Rattle.rules.proofs.KeepLive.{payload, payload-off, payload-out, payload-other}
 use Rattle.rules.proofs.Live.{Payload, live-write}
 use Rattle.rules.specs.Search.{Found, at, nowhere, lost}
 use Rattle.rules.proofs.Search.{find-fits, Fits}
-use Rattle.rules.specs.Place.{indexAt, usedAt}
-use Rattle.rules.proofs.Place.{free-at, index-at, used-at}
+use Rattle.rules.specs.Place.{usedAt}
+use Rattle.rules.proofs.Place.{free-at, used-at}
 use Rattle.rules.proofs.Named.{size-at, byte-at}
 use Rattle.words.specs.Sizes.{classOf, roundedOf}
 use Rattle.words.proofs.Laws.Sizes.{class-below}
@@ -42,13 +40,14 @@ use Rattle.rules.specs.Rules.{settled, takeBack}
 use Rattle.rules.specs.Machine.{Model, Request, ask, give, Answer, answerOf, callM, sizeM, searched, searchM, liveM, gaveM, settledM, takeBackM, madeM, stepsM, repliesM}
 use Rattle.rules.specs.Sound.{Accepted, Shows}
 use Rattle.rules.proofs.Store.{Edition}
-use Rattle.rules.proofs.Follow.{Follows, shown, whole, L, search-same, met-free, used-size, left-there, live-same, snoc-used, r16, r8}
+use Rattle.rules.proofs.Follow.{Follows, shown, whole, L, search-same, met-free, used-size, live-same, snoc-used, r16, r8}
 use Rattle.rules.proofs.Follow.{Picked, choose-picked, choose-cached, portion-least, portion-le}
 use Rattle.rules.proofs.Bounds.{cached-fits}
 use Rattle.rules.proofs.Decide.{true-sound, layout-unique}
 use Rattle.rules.specs.Test.{soundᵇ}
 use Rattle.rules.specs.Demands.{LiveWord, hand, back}
 use Rattle.rules.proofs.Demands.{hand-follows, back-follows}
+use Rattle.rules.proofs.LetGo.{gave-keeps}
 use Rattle.rules.specs.Making.{fresh}
 use Rattle.rules.proofs.Editions.{edition, made-shows}
 use Rattle.rules.specs.Runs.{Live, Same, acts, call, machine}
@@ -63,16 +62,6 @@ pub replies-machine : (places : ℕ) (qs : List Request) (m : Model) → replies
 unfolding replies repliesM
 replies-machine places [] m = refl
 replies-machine places (q ∷ qs) m = ap (λ (bs : List Answer). answerOf (callM places q m) ∷ bs) (replies-machine places qs (callM places q m .after))
-
--- a live word lies in the payload of a used chunk
-payload : (m : Model) (i : ℕ) → LiveWord m i → Payload (m .cs) i
-payload m i l =
-    let u = l .2 .1 in
-    let b = u .byte in
-    let p4 = l .2 .0 in
-    let lo = l .3 .0 in
-    let hi = l .3 .1 in
-    record { pre = u .pre; size = l .1; post = u .post; is = u .is; low = omega arith; high = omega arith }
 
 module _ {S : Type 0} {op : Ops S Figures} {most places : ℕ} (E : Edition op most places) where
   abbrev Sh : S → Model → Type 0
@@ -176,7 +165,7 @@ module _ {S : Type 0} {op : Ops S Figures} {most places : ℕ} (E : Edition op m
     hand-keeps size l = rw (true-sound E s (m, h)) (go (eqb size 0) (ltb 4294967284 size))
       where
         list : (r : Found) → Fits (sizeM m) (roundedOf size) (searched m (roundedOf size)) r
-            → op .word (fromList op places (soundᵇ op most places) s (roundedOf size) r .after) i ≡ op .word s i
+            → op .word (fromList op s (roundedOf size) r .after) i ≡ op .word s i
         list (nowhere c) f = refl
         list lost f = refl
         list (at x c) f =
@@ -185,7 +174,7 @@ module _ {S : Type 0} {op : Ops S Figures} {most places : ℕ} (E : Edition op m
             took-keeps s (g .pre) (r .0) (g .post) (m .orders) (m .figs) x (roundedOf size) i _ (r16 size) (r8 size) (g .named)
             (subst (λ cs. Sh s (record { cs = cs; orders = m .orders; figs = m .figs })) (g .is) h) (subst (λ cs. Payload cs i) (g .is) (payload m i l))
 
-        served : (c : Chosen) → Picked (sizeM m) (roundedOf size) (m .figs .cached) c → op .word (fromCache op places (soundᵇ op most places) s (roundedOf size) c .after) i ≡ op .word s i
+        served : (c : Chosen) → Picked (sizeM m) (roundedOf size) (m .figs .cached) c → op .word (fromCache op s (roundedOf size) c .after) i ≡ op .word s i
         served (one x ks) p =
             let c = cached-fits E s m h x (subst (λ (f : Figures). Mem x (f .cached)) (sym (h .figs)) (p .1)) in
             let n16 = c .least in
@@ -193,11 +182,11 @@ module _ {S : Type 0} {op : Ops S Figures} {most places : ℕ} (E : Edition op m
             emptied-out (L E s m h) (op .setRest s g) (x - 6) (lengthAt op s x) i (omega arith) (cached-out l x (p .1))
             ∙ L E s m h .word-setRest s g i
         served none p =
-            rw (search-same E s m h (soundᵇ op most places) (roundedOf size))
+            rw (search-same E s m h (roundedOf size))
             (list (searchM m (roundedOf size)) (find-fits (sizeM m) (roundedOf size) (searched m (roundedOf size)) 0))
 
         go : (a b : Bool) → op .word ((pick a (says 1 0 0 s)
-            (pick b (says 2 0 0 s) (fromCache op places (soundᵇ op most places) s (roundedOf size)
+            (pick b (says 2 0 0 s) (fromCache op s (roundedOf size)
             (choose (lengthAt op s) (roundedOf size) (op .rest s .cached))))) .after) i ≡ op .word s i
         go true b = refl
         go false true = refl
@@ -205,32 +194,8 @@ module _ {S : Type 0} {op : Ops S Figures} {most places : ℕ} (E : Edition op m
             rw (choose-cached E s m h (roundedOf size))
             (served (choose (sizeM m) (roundedOf size) (m .figs .cached)) (choose-picked (sizeM m) (roundedOf size) (m .figs .cached)))
 
-    gave-keeps : (k v : ℕ) (ks : List ℕ) (r : Figures) → 6 ≤ k → 0 < usedAt (m .cs) (byteOf k) → Payload (m .cs) i → Payload (gaveM m v ks (byteOf k) (sizeM m k) .cs) i
-        → op .word (op .setRest (releaseChunk op s (k - 6) (lengthAt op s k)) r) i ≡ op .word s i
-    unfolding gaveM
-    gave-keeps k v ks r k6 up p p″ =
-        let n = usedAt (m .cs) (byteOf k) in
-        let u = used-at (m .cs) (byteOf k) (omega arith) in
-        let w = subst (λ cs. Whole (L E s m h) classOf class-below s (m .orders) cs) (u .is) (whole E s m h) in
-        let c = subst Calm (u .is) (h .calm) in
-        let lp = legal-front (u .pre) (busy n ∷ u .post) (w .legal) in
-        let lq = (legal-back (u .pre) (busy n ∷ u .post) (w .legal)) .2 in
-        let j : indexAt (m .cs) (byteOf k) ≡ length (u .pre) = ap (λ ds. indexAt ds (byteOf k)) (u .is) ∙ index-at (u .pre) (busy n) (u .post) (byteOf k) lp (u .byte) in
-        let q : release (m .cs) (indexAt (m .cs) (byteOf k)) ≡ release (u .pre ++ busy n ∷ u .post) (length (u .pre)) = ap (λ (v : ℕ). release (m .cs) v) j ∙ ap
-        (λ ds. release ds (length (u .pre))) (u .is) in
-        let b : byteOf k ≡ 0 + total (u .pre) = u .byte ∙ sym (zero-add (total (u .pre))) in
-        let y : lengthAt op s k ≡ n = used-size E s m h k k6 up in
-        let lt = left-there E (L E s m h) s (u .pre) n (u .post) k (u .byte) k6 (w .legal) (w .tags) in
-        L E s m h .word-setRest (releaseChunk op s (k - 6) (lengthAt op s k)) r i
-        ∙ ap (λ (t : S). op .word t i) (release-words op s (k - 6) (lengthAt op s k) (omega arith) (lt .1))
-        ∙ ap (λ (t : ℕ). op .word (releaseStep op classOf s (byteOf k) t) i) y
-        ∙ ap (λ (t : ℕ). op .word (releaseStep op classOf s t n) i) b
-        ∙ release-keeps (L E s m h) classOf class-below s (m .orders) n i (u .pre) (u .post) c w
-        (payload-off (L E s m h) classOf class-below (u .pre ++ busy n ∷ u .post) i (w .legal) (subst (λ ds. Payload ds i) (u .is) p))
-        (shape-out (L E s m h) classOf class-below s n _ _ _ i (shape (L E s m h) classOf class-below s n (u .pre) (u .post) c lq) (subst (λ ds. Payload ds i) q p″))
-
     settled-keeps : (v : ℕ) (ks : List ℕ) → ((x : ℕ) → Mem x ks → (6 ≤ x) × (0 < usedAt (m .cs) (byteOf x))) → Payload (m .cs) i → Payload (settledM places m v ks .cs) i
-        → op .word (settled op places (soundᵇ op most places) s v ks) i ≡ op .word s i
+        → op .word (settled op places s v ks) i ≡ op .word s i
     unfolding settled
     settled-keeps v [] us p p′ = refl
     settled-keeps v (k ∷ ks) us p p′ = go (leb (length (k ∷ ks)) places) p′
@@ -239,19 +204,19 @@ module _ {S : Type 0} {op : Ops S Figures} {most places : ℕ} (E : Edition op m
             → op .word (pick t (op .setRest s (withCached (op .rest s) v (k ∷ ks)))
             (op .setRest (releaseChunk op s (k - 6) (lengthAt op s k)) (released (op .rest s) v ks (lengthAt op s k)))) i ≡ op .word s i
         go true y = L E s m h .word-setRest s (withCached (op .rest s) v (k ∷ ks)) i
-        go false y = let u = us k (List·Memᴰ·head refl) in gave-keeps k v ks (released (op .rest s) v ks (lengthAt op s k)) (u .0) (u .1) p y
+        go false y = let u = us k (List·Memᴰ·head refl) in gave-keeps E s m h i k v ks (released (op .rest s) v ks (lengthAt op s k)) (u .0) (u .1) p y
 
     back-keeps : (p : ℕ) → Payload (m .cs) i → Payload (takeBackM places m p .after .cs) i → op .word (back op most places s p .after) i ≡ op .word s i
     unfolding takeBack takeBackM
-    back-keeps p a b = rw (true-sound E s (m, h), live-same E (soundᵇ op most places) s m h p, h .figs) (go (eqb (liveM m p) 0) refl b)
+    back-keeps p a b = rw (true-sound E s (m, h), live-same E s m h p, h .figs) (go (eqb (liveM m p) 0) refl b)
       where
         go : (t : Bool) → eqb (liveM m p) 0 ≡ t
             → Payload ((pick t (says 4 0 0 m) (says 0 0 0 (settledM places m (m .figs .inUse - liveM m p) (m .figs .cached ++ nameOf (p - 4) ∷ [])))) .after .cs) i
             → op .word ((pick t (says 4 0 0 s) (says 0 0 0
-            (settled op places (soundᵇ op most places) s (m .figs .inUse - liveM m p) (m .figs .cached ++ nameOf (p - 4) ∷ [])))) .after) i ≡ op .word s i
+            (settled op places s (m .figs .inUse - liveM m p) (m .figs .cached ++ nameOf (p - 4) ∷ [])))) .after) i ≡ op .word s i
         go true e y = refl
         go false e y =
-            settled-keeps (m .figs .inUse - liveM m p) (m .figs .cached ++ nameOf (p - 4) ∷ []) (snoc-used E (soundᵇ op most places) s m h p (eqb-false (liveM m p) 0 e)) a y
+            settled-keeps (m .figs .inUse - liveM m p) (m .figs .cached ++ nameOf (p - 4) ∷ []) (snoc-used E s m h p (eqb-false (liveM m p) 0 e)) a y
 
   -- NO CALL CHANGES a word of a payload live before and after it
   pub payload-kept : (q : Request) (s : S) (i : ℕ) → Live op most places s i → Live op most places (call op most places q s .after) i

@@ -17,7 +17,7 @@ use Rattle.rules.specs.Claims.{asked, given}
 module _ {S : Type 0} (op : Ops S Figures) (most places : ℕ) where
   -- the length of the live chunk whose payload begins at p; 0 where none does
   abbrev pub liveAt : S → ℕ → ℕ
-  liveAt s p = live op places (soundᵇ op most places) s p
+  liveAt s p = live op s p
 
   -- from s to t every payload but the one at v stays as it was: live with the same length, or not live
   abbrev pub OthersStay : S → S → ℕ → Type 0

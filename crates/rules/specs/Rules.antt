@@ -87,7 +87,7 @@ counted r m e =
 abbrev pub released : Figures → ℕ → List ℕ → ℕ → Figures
 released r i ks n = record { words = r .words; cached = ks; inUse = i; committed = r .committed - n; peak = r .peak; high = r .high; flag = r .flag }
 
-module _ {S : Type 0} (op : Ops S Figures) (places : ℕ) (sound : S → Bool) where
+module _ {S : Type 0} (op : Ops S Figures) where
   -- HANDING OUT: 2. the lists from the start class upwards, each from its sentinel's next, and the first chunk in them that has z bytes
   unfoldable pub firstFit : S → ℕ → Found
   firstFit s z = find (lengthAt op s) z (inTurn (λ k. walk (op .next s) k (op .count s) (op .next s k)) (6 - startOf z) (startOf z)) 0
@@ -113,23 +113,23 @@ module _ {S : Type 0} (op : Ops S Figures) (places : ℕ) (sound : S → Bool) w
   serve s z = fromCache s z (choose (lengthAt op s) z (op .rest s .cached))
 
   -- size bytes asked: 1, 2, 5 in that order, else served
-  unfoldable pub handOut : S → ℕ → Outcome S
-  handOut s size = pick (eqb size 0) (says 1 0 0 s) (pick (ltb 4294967284 size) (says 2 0 0 s) (pick (sound s) (serve s (roundedOf size)) (says 5 0 0 s)))
+  unfoldable pub handOut : (S → Bool) → S → ℕ → Outcome S
+  handOut sound s size = pick (eqb size 0) (says 1 0 0 s) (pick (ltb 4294967284 size) (says 2 0 0 s) (pick (sound s) (serve s (roundedOf size)) (says 5 0 0 s)))
 
   -- TAKING BACK: the length of the live chunk whose payload begins at p, 0 where none does
   unfoldable pub live : S → ℕ → ℕ
   live s p = pick (leb 4 p) (pick (listed (nameOf (p - 4)) (op .rest s .cached)) 0 (usedAt (tile (op .word s) (op .count s) 0) (p - 4))) 0
 
   -- the chunks ks cached and tasks holding i bytes; where the chunks are too many, the oldest is released
-  unfoldable pub settled : S → ℕ → List ℕ → S
-  settled s i [] = s
-  settled s i (k ∷ ks) =
+  unfoldable pub settled : ℕ → S → ℕ → List ℕ → S
+  settled places s i [] = s
+  settled places s i (k ∷ ks) =
       let n = lengthAt op s k in
       let off = op .setRest (releaseChunk op s (k - 6) n) (released (op .rest s) i ks n) in
       pick (leb (length (k ∷ ks)) places) (op .setRest s (withCached (op .rest s) i (k ∷ ks))) off
 
   -- payload offset p given back: 5, then 4, else the chunk is cached, and in use falls by its length
-  unfoldable pub takeBack : S → ℕ → Outcome S
-  takeBack s p =
-      let done = says 0 0 0 (settled s (op .rest s .inUse - live s p) (op .rest s .cached ++ nameOf (p - 4) ∷ [])) in
+  unfoldable pub takeBack : ℕ → (S → Bool) → S → ℕ → Outcome S
+  takeBack places sound s p =
+      let done = says 0 0 0 (settled places s (op .rest s .inUse - live s p) (op .rest s .cached ++ nameOf (p - 4) ∷ [])) in
       pick (sound s) (pick (eqb (live s p) 0) (says 4 0 0 s) done) (says 5 0 0 s)

@@ -7,7 +7,7 @@ use Prim.Native.Nat.{ℕ}
 use lib.Dec.{eqb}
 use lib.ListN.{getD, replicate}
 use Rattle.words.specs.Sizes.{roundedOf, classOf}
-use Rattle.words.specs.Links.{Width, narrow, setLinkAt}
+use Rattle.words.specs.Links.{setLinkAt}
 use Rattle.rules.specs.Steps.{unlink, link, setLeft, clearLeft, markFree, markUsed, oneChunk, returnExcess, takeChunk, cleared, emptied}
 use Rattle.rules.specs.Steps.{leftFree, rightFree, merge, merged, releaseChunk}
 use Rattle.rules.specs.State.{ops}
@@ -20,16 +20,7 @@ use Rattle.rules.specs.Making.{State, make}
 use Rattle.rules.specs.Machine.{Request, ask, give}
 use Rattle.rules.specs.Test.{legalᵇ, calmᵇ, tagsᵇ, segᵇ, belowᵇ, everyᵇ, slotᵇ, exactᵇ, distinctᵇ, underᵇ, cacheᵇ, figuresᵇ, showsᵇ, candidate, soundᵇ}
 use Rattle.rules.specs.Runs.{call}
-
--- a kind of heap: link width, longest length, cache places
-pub record Kind : Type 0 where
-  pub links : Width
-  pub most : ℕ
-  pub places : ℕ
-
--- document 01's heap
-abbrev pub base : Kind
-base = record { links = narrow; most = 65529; places = 1 }
+use Rattle.rules.specs.Kind.{Kind, one, four}
 
 -- n words of 0 made, and the last outcome of these requests
 abbrev pub made : Kind → ℕ → Outcome State
@@ -82,9 +73,29 @@ table =
     ∷ last 333 (ask 532 ∷ give 4 ∷ ask 13 ∷ []) 0 4 0 ∷ last 333 (ask 540 ∷ give 4 ∷ ask 13 ∷ []) 0 548 1
     ∷ []
 
--- THE ONE CLAIM
-pub claim : all base table ≡ true
+-- where one place and four differ: two chunks given back, and a request that both serve; first with one place
+abbrev pub newest : List Entry
+newest = last 13 (ask 12 ∷ ask 12 ∷ give 4 ∷ give 20 ∷ ask 12 ∷ []) 0 20 0 ∷ []
+
+-- and with four
+abbrev pub bursts : List Entry
+bursts =
+    -- the oldest of two is handed out, whichever stands left
+    last 13 (ask 12 ∷ ask 12 ∷ give 4 ∷ give 20 ∷ ask 12 ∷ []) 0 4 0 ∷ last 13 (ask 12 ∷ ask 12 ∷ give 20 ∷ give 4 ∷ ask 12 ∷ []) 0 20 0
+    -- one handed out again, the other is the oldest then
+    ∷ last 13 (ask 12 ∷ ask 12 ∷ give 4 ∷ give 20 ∷ ask 12 ∷ ask 12 ∷ []) 0 20 0
+    -- the oldest that serves: 16 bytes are too short for 20
+    ∷ last 25 (ask 12 ∷ ask 20 ∷ give 4 ∷ give 20 ∷ ask 20 ∷ []) 0 20 0
+    -- a fifth one lets the oldest go: its header says free, and the second is the oldest then
+    ∷ word 25 (ask 12 ∷ ask 12 ∷ ask 12 ∷ ask 12 ∷ ask 12 ∷ give 4 ∷ give 20 ∷ give 36 ∷ give 52 ∷ give 68 ∷ []) 0 17
+    ∷ last 25 (ask 12 ∷ ask 12 ∷ ask 12 ∷ ask 12 ∷ ask 12 ∷ give 4 ∷ give 20 ∷ give 36 ∷ give 52 ∷ give 68 ∷ ask 12 ∷ []) 0 20 0
+    -- each cached chunk is cold
+    ∷ last 13 (ask 12 ∷ ask 12 ∷ give 4 ∷ give 20 ∷ give 4 ∷ []) 4 0 0 ∷ last 13 (ask 12 ∷ ask 12 ∷ give 4 ∷ give 20 ∷ give 20 ∷ []) 4 0 0
+    ∷ []
+
+-- THE ONE CLAIM: document 01's entries with one place and with four, and where the two differ
+pub claim : (all one table ≡ true) × (all four table ≡ true) × (all one newest ≡ true) × (all four bursts ≡ true)
 unfolding call handOut takeBack live choose listed make serve fromCache fromList firstFit settled link unlink setLeft clearLeft markFree markUsed oneChunk
     returnExcess takeChunk cleared emptied leftFree rightFree merge merged releaseChunk setLinkAt classOf find inTurn usedAt soundᵇ showsᵇ candidate
     legalᵇ calmᵇ tagsᵇ segᵇ belowᵇ everyᵇ slotᵇ exactᵇ distinctᵇ underᵇ cacheᵇ figuresᵇ tile walk frees
-claim = refl
+claim = (refl, refl, refl, refl)

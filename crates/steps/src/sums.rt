@@ -31,7 +31,7 @@ pub fn less(a: u32, b: u32) -> u32
 }
 
 // The flag after a handout that ends at `end`: on if high water rises, else as it was.
-pub fn risen(high: u32, end: u32, fresh: u16) -> u16
+pub fn risen(high: u32, end: u32, fresh: u32) -> u32
     ensures { λ r. ⌜ r ≡ pick (ltb high end) 1 fresh ⌝ }
 {
     if high < end { 1 } else { fresh }

@@ -15,6 +15,7 @@ use lib.Seq.{length-take-le}
 use borrow.Author.Tests.{le-leb, lt-leb, lt-ltb, le-ltb, ltb-true}
 use Rattle.words.specs.Choice.{pick}
 use Rattle.heap.specs.declared.record.Record.{Record}
+use Rattle.cache.specs.Places.{cachedOf}
 use Rattle.heap.specs.Seen.{seen, emptyRecord}
 use Rattle.io.specs.Counts.{clamped}
 use Rattle.feed.specs.declared.pieces.Trace.{Trace}
@@ -32,9 +33,9 @@ use Rattle.stream.specs.Ran.{most, atFirst, Ran, Going, Answered}
 -- ---- one step
 
 -- nothing taken: the run is at an end
-pub takes-none : (s : Stream) (b : Bool) (memory out : List ℕ) → Takes s [] memory (ended s b) memory out
+pub takes-none : {places : ℕ} (s : Stream) (b : Bool) (memory out : List ℕ) → Takes places s [] memory (ended s b) memory out
 takes-none s b memory out =
-    record { stands = steps-none _; counts = omega arith; goes = refl; fits = omega arith; each = omega arith; same = refl }
+    record { stands = steps-none _ _; counts = omega arith; goes = refl; fits = omega arith; each = omega arith; same = refl }
 
 -- no piece: the read gave nothing, or more than may still be read
 pub piece-none : (left n : ℕ) (got : ℤ) (input : List ℕ) → n ≡ clamped got (length input) → n ≡ 0 → pieceOf left got input ≡ []
@@ -50,7 +51,7 @@ piece-is : (left n : ℕ) (got : ℤ) (input : List ℕ) → n ≡ clamped got (
 unfolding pieceOf
 piece-is left n got input e h = rw (sym e, le-leb n left h)
 
-pub takes-end : (s r : Stream) (b : Bool) (piece memory out : List ℕ) → r ≡ ended s b → piece ≡ [] → Takes s piece memory r memory out
+pub takes-end : {places : ℕ} (s r : Stream) (b : Bool) (piece memory out : List ℕ) → r ≡ ended s b → piece ≡ [] → Takes places s piece memory r memory out
 takes-end s r b piece memory out e f = rw (e, f) (takes-none s b memory out)
 
 -- at an end it is known whether the run failed
@@ -70,17 +71,17 @@ pub below-as : (got : ℤ) → SFits w64 got → ltZ (toZ w64 (ofZ w64 got)) (po
 below-as got f = ap (λ (z : ℤ). ltZ z (pos 0)) (toZ-ofZ w64 got f)
 
 -- a piece fed whole
-pub takes-fed : (s : Stream) (f : Fed) (got : ℤ) (n : ℕ) (memory input out memory' out' : List ℕ) → n ≡ clamped got (length input) → n ≤ length input
+pub takes-fed : {places : ℕ} (s : Stream) (f : Fed) (got : ℤ) (n : ℕ) (memory input out memory' out' : List ℕ) → n ≡ clamped got (length input) → n ≤ length input
     → 0 < n → n ≤ s .left → 19 * length input ≤ length out → length out' ≡ length out
-    → stands f memory' out' ≡ steps (standing (s .trace) memory []) (take (f .taken) (take n input))
+    → stands f memory' out' ≡ steps places (standing (s .trace) memory []) (take (f .taken) (take n input))
     → f .filled ≤ length out → (f .taken < length (take n input) → length out < f .filled + 19) → f .filled ≤ 19 * f .taken → f .taken ≤ length (take n input)
-    → Takes s (pieceOf (s .left) got input) memory
+    → Takes places s (pieceOf (s .left) got input) memory
     (record { trace = f .trace; left = s .left - n; filled = f .filled; written = s .written; more = true; failed = false }) memory' out'
 takes-fed s f got n memory input out memory' out' e k h g room same d fits full each some =
     let long : length (take n input) ≡ n = length-take-le n input k in
     rw (piece-is (s .left) n got input e g)
     (record {
-      stands = all-taken _ _ (take n input) (length out) (f .taken) (f .filled) (omega (arith, long)) full each d;
+      stands = all-taken _ _ _ (take n input) (length out) (f .taken) (f .filled) (omega (arith, long)) full each d;
       counts = omega (arith, long);
       goes = sym (lt-ltb 0 (length (take n input)) (omega (arith, long)));
       fits = omega (arith, same, fits);
@@ -100,14 +101,15 @@ last-length os l n h k e = sym (length-take-le n os (omega arith)) ∙ ap length
 -- ---- a run
 
 -- before the first byte
-pub going-first : (a : Bool) (memory : List ℕ) (s : Stream) → s .trace .rec ≡ emptyRecord → textOf (s .trace .line) ≡ [] → s .left ≡ most → s .written ≡ 0
-    → Going a memory s memory
+pub going-first : {places : ℕ} (a : Bool) (memory : List ℕ) (s : Stream) → s .trace .rec ≡ emptyRecord → textOf (s .trace .line) ≡ [] → s .left ≡ most → s .written ≡ 0
+    → Going places a memory s memory
+unfolding cachedOf
 going-first a memory s r l n w =
     record {
       ran = record {
         input = [];
         answers = [];
-        stands = ap (λ (x : Record). onLine (seen x memory) (textOf (s .trace .line)) []) r ∙ ap (λ (x : List ℕ). onLine (empty memory) x []) l ∙ steps-none _;
+        stands = ap (λ (x : Record). onLine (seen x memory) (textOf (s .trace .line)) []) r ∙ ap (λ (x : List ℕ). onLine (empty memory) x []) l ∙ steps-none _ _;
         counted = omega (arith, n);
       };
       written = λ _. w;
@@ -119,8 +121,8 @@ abbrev pub turnsLeft : Stream → ℕ
 turnsLeft s = s .left + pick (s .more) 1 0
 
 -- a piece more, whose answers were handed over, or are not wanted
-pub going-on : {a : Bool} {memory ms ns os : List ℕ} {s r : Stream} (w : Stream) (k : ℕ) → Going a memory s ms → Next s ms r ns os → w .trace ≡ r .trace
-    → w .left ≡ r .left → w .written ≡ r .written + k → (a ≡ true → k ≡ r .filled) → k ≤ r .filled → Going a memory w ns
+pub going-on : {places : ℕ} {a : Bool} {memory ms ns os : List ℕ} {s r : Stream} (w : Stream) (k : ℕ) → Going places a memory s ms → Next places s ms r ns os → w .trace ≡ r .trace
+    → w .left ≡ r .left → w .written ≡ r .written + k → (a ≡ true → k ≡ r .filled) → k ≤ r .filled → Going places a memory w ns
 going-on {memory = memory} {ns = ns} {os = os} {r = r} w k g n t l e f h =
     let x = g .ran in
     let y = n .takes in
@@ -132,7 +134,7 @@ going-on {memory = memory} {ns = ns} {os = os} {r = r} w k g n t l e f h =
         input = x .input ++ n .piece;
         answers = x .answers ++ take (r .filled) os;
         stands = ap (λ (z : Trace). standing z ns (x .answers ++ take (r .filled) os)) t
-            ∙ steps-after (atFirst memory) _ _ _ _ (x .answers) (take (r .filled) os) (x .input) (n .piece) (x .stands) (y .stands);
+            ∙ steps-after _ (atFirst memory) _ _ _ _ (x .answers) (take (r .filled) os) (x .input) (n .piece) (x .stands) (y .stands);
         counted = omega (arith, more, x .counted, y .counts, l);
       };
       written = λ b. omega (arith, said, g .written b, y .same, e, f b);
@@ -140,7 +142,7 @@ going-on {memory = memory} {ns = ns} {os = os} {r = r} w k g n t l e f h =
     }
 
 -- the turns get fewer
-pub turns-less : {ms ns os : List ℕ} {s r : Stream} (w : Stream) → Next s ms r ns os → w .left ≡ r .left → s .more ≡ true → (w .more ≡ true → r .more ≡ true)
+pub turns-less : {places : ℕ} {ms ns os : List ℕ} {s r : Stream} (w : Stream) → Next places s ms r ns os → w .left ≡ r .left → s .more ≡ true → (w .more ≡ true → r .more ≡ true)
     → turnsLeft w < turnsLeft s
 turns-less {s = s} w n l on f = rw on (go (w .more) refl)
   where
@@ -149,26 +151,26 @@ turns-less {s = s} w n l on f = rw on (go (w .more) refl)
     go false e = omega (arith, n .takes .counts, l)
 
 -- there is a number for the bytes written
-pub going-fits : {a : Bool} {memory ms ns os : List ℕ} {s r : Stream} → Going a memory s ms → Next s ms r ns os → r .written + r .filled ≤ 18446744073709551615
+pub going-fits : {places : ℕ} {a : Bool} {memory ms ns os : List ℕ} {s r : Stream} → Going places a memory s ms → Next places s ms r ns os → r .written + r .filled ≤ 18446744073709551615
 going-fits g n = omega (arith, g .bound, g .ran .counted, n .takes .same, n .takes .each, n .takes .counts)
 
 -- ---- the end of a run
 
 -- no answers are wanted
-pub answered-quiet : {a : Bool} {memory ms : List ℕ} {s : Stream} → Going a memory s ms → a ≡ false → Answered a memory s ms
+pub answered-quiet : {places : ℕ} {a : Bool} {memory ms : List ℕ} {s : Stream} → Going places a memory s ms → a ≡ false → Answered places a memory s ms
 answered-quiet g e = record { ran = g .ran; written = λ b _. absurd (false≢true (sym e ∙ b)) }
 
 -- something failed
-pub answered-failed : {a : Bool} {memory ms : List ℕ} {s : Stream} → Going a memory s ms → s .failed ≡ true → Answered a memory s ms
+pub answered-failed : {places : ℕ} {a : Bool} {memory ms : List ℕ} {s : Stream} → Going places a memory s ms → s .failed ≡ true → Answered places a memory s ms
 answered-failed g e = record { ran = g .ran; written = λ _ f. absurd (false≢true (sym f ∙ e)) }
 
 -- BYTES IN, BYTES OUT: what was handed over has the length of the trace
-pub answered-all : {a : Bool} {memory ms : List ℕ} {s : Stream} (r : Stream) → Going a memory s ms → Writes s (length (lastLine (textOf (s .trace .line)))) r
-    → Answered a memory r ms
-answered-all {memory = memory} {ms = ms} {s = s} r g w =
+pub answered-all : {places : ℕ} {a : Bool} {memory ms : List ℕ} {s : Stream} (r : Stream) → Going places a memory s ms → Writes s (length (lastLine (textOf (s .trace .line)))) r
+    → Answered places a memory r ms
+answered-all {places = places} {memory = memory} {ms = ms} {s = s} r g w =
     let x = g .ran in
-    let all : x .answers ++ lastLine (textOf (s .trace .line)) ≡ traceOf memory (x .input) =
-    ap allAnswers (x .stands) ∙ whole-from (x .input) [] (empty memory) [] in
+    let all : x .answers ++ lastLine (textOf (s .trace .line)) ≡ traceOf places memory (x .input) =
+    ap allAnswers (x .stands) ∙ whole-from _ (x .input) [] (empty memory) [] in
     record {
       ran = record {
         input = x .input;

@@ -19,19 +19,19 @@ abbrev pub atFirst : List ℕ → Stand
 atFirst memory = record { heap = empty memory; line = []; out = [] }
 
 -- WHERE A RUN STANDS: record, memory and the line that has begun are those after the bytes read
-pub record Ran (memory : List ℕ) (s : Stream) (memory' : List ℕ) : Type 0 where
+pub record Ran (places : ℕ) (memory : List ℕ) (s : Stream) (memory' : List ℕ) : Type 0 where
   pub input : List ℕ
   pub answers : List ℕ
-  pub stands : standing (s .trace) memory' answers ≡ steps (atFirst memory) input
+  pub stands : standing (s .trace) memory' answers ≡ steps places (atFirst memory) input
   pub counted : length input + s .left ≡ most
 
 -- the same on the way: where answers are wanted they were handed over, at most nineteen bytes for a byte
-pub record Going (answering : Bool) (memory : List ℕ) (s : Stream) (memory' : List ℕ) : Type 0 where
-  pub ran : Ran memory s memory'
+pub record Going (places : ℕ) (answering : Bool) (memory : List ℕ) (s : Stream) (memory' : List ℕ) : Type 0 where
+  pub ran : Ran places memory s memory'
   pub written : answering ≡ true → s .written ≡ length (ran .answers)
   pub bound : s .written ≤ 19 * length (ran .input)
 
 -- ALL ANSWERED: where nothing failed, as many bytes were handed over as the trace of the input has
-pub record Answered (answering : Bool) (memory : List ℕ) (r : Stream) (memory' : List ℕ) : Type 0 where
-  pub ran : Ran memory r memory'
-  pub written : answering ≡ true → r .failed ≡ false → r .written ≡ length (traceOf memory (ran .input))
+pub record Answered (places : ℕ) (answering : Bool) (memory : List ℕ) (r : Stream) (memory' : List ℕ) : Type 0 where
+  pub ran : Ran places memory r memory'
+  pub written : answering ≡ true → r .failed ≡ false → r .written ≡ length (traceOf places memory (ran .input))

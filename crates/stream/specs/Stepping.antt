@@ -25,8 +25,8 @@ unfoldable pub pieceOf : ℕ → ℤ → List ℕ → List ℕ
 pieceOf left got input = pick (leb (clamped got (length input)) left) (take (clamped got (length input)) input) []
 
 -- A PIECE TAKEN: it is fed and counted, each byte of it, and its answers stand at the start of the room
-pub record Takes (s : Stream) (piece memory : List ℕ) (r : Stream) (memory' out' : List ℕ) : Type 0 where
-  pub stands : standing (r .trace) memory' (take (r .filled) out') ≡ steps (standing (s .trace) memory []) piece
+pub record Takes (places : ℕ) (s : Stream) (piece memory : List ℕ) (r : Stream) (memory' out' : List ℕ) : Type 0 where
+  pub stands : standing (r .trace) memory' (take (r .filled) out') ≡ steps places (standing (s .trace) memory []) piece
   pub counts : length piece + r .left ≡ s .left
   pub goes : r .more ≡ ltb 0 (length piece)
   pub fits : r .filled ≤ length out'
@@ -34,9 +34,9 @@ pub record Takes (s : Stream) (piece memory : List ℕ) (r : Stream) (memory' ou
   pub same : r .written ≡ s .written
 
 -- A READ MADE: some piece was taken. Which one the system gave no contract can say
-pub record Next (s : Stream) (memory : List ℕ) (r : Stream) (memory' out' : List ℕ) : Type 0 where
+pub record Next (places : ℕ) (s : Stream) (memory : List ℕ) (r : Stream) (memory' out' : List ℕ) : Type 0 where
   pub piece : List ℕ
-  pub takes : Takes s piece memory r memory' out'
+  pub takes : Takes places s piece memory r memory' out'
 
 -- N BYTES HANDED OVER to be written: nothing else changes, but that a write that fails ends the run
 pub record Writes (s : Stream) (n : ℕ) (r : Stream) : Type 0 where

@@ -5,10 +5,12 @@ ghost use lib.ListN.{length};
 ghost use mathlib.Core.Bool.{false};
 ghost use mathlib.Core.List.{[]};
 ghost use Rattle.heap.specs.Seen.{emptyRecord};
+ghost use Rattle.heap.specs.Kind.{placesOf};
 ghost use Rattle.feed.specs.Reading.{textOf};
 ghost use Rattle.stream.specs.Stepping.{ended, fails, pieceOf, Takes, Next};
 ghost use Rattle.stream.specs.Ran.{most};
 use feed::Trace;
+use heap::Kind;
 
 // How many bytes are read at most: the answers to them, nineteen for each, can still be counted. Nothing says that the input ends.
 const MOST: usize = 970881267037344820;
@@ -57,10 +59,17 @@ impl Stream {
 }
 
 // What the answer of a read leads to: the bytes that it gave are counted and fed.
-fn take_in(before: Stream, got: isize, memory: &mut [u32], input: &[u8], out: &mut [u8]) -> Stream
+fn take_in(
+    before: Stream,
+    got: isize,
+    memory: &mut [u32],
+    input: &[u8],
+    out: &mut [u8],
+    kind: Kind,
+) -> Stream
     requires { ⌜ 19 * length (now input) ≤ length (now out) ⌝ }
     ensures { λ r. ⌜
-        Takes before (pieceOf (before .left) got (now (input .entry))) (now (memory .entry)) r (now (memory .exit)) (now (out .exit))
+        Takes (placesOf kind) before (pieceOf (before .left) got (now (input .entry))) (now (memory .entry)) r (now (memory .exit)) (now (out .exit))
         × (r .more ≡ false → r .failed ≡ fails (before .left) got (length (now (input .entry))))
         ⌝ }
 {
@@ -72,7 +81,7 @@ fn take_in(before: Stream, got: isize, memory: &mut [u32], input: &[u8], out: &m
         return before.ended(true);
     }
     let trace = before.trace;
-    let fed = feed::feed(trace, memory, &input[..count], out);
+    let fed = feed::feed(trace, memory, &input[..count], out, kind);
     let next = fed.trace;
     Stream {
         trace: next,
@@ -85,12 +94,18 @@ fn take_in(before: Stream, got: isize, memory: &mut [u32], input: &[u8], out: &m
 }
 
 // Reads once and feeds what was read. The room has to have nineteen bytes for each that is lent to the read.
-pub fn next(before: Stream, memory: &mut [u32], input: &mut [u8], out: &mut [u8]) -> Stream
-    ensures { λ r. ⌜ Next before (now (memory .entry)) r (now (memory .exit)) (now (out .exit)) ⌝ }
+pub fn next(
+    before: Stream,
+    memory: &mut [u32],
+    input: &mut [u8],
+    out: &mut [u8],
+    kind: Kind,
+) -> Stream
+    ensures { λ r. ⌜ Next (placesOf kind) before (now (memory .entry)) r (now (memory .exit)) (now (out .exit)) ⌝ }
 {
     if out.len() / 19 < input.len() {
         return before.ended(true);
     }
     let got = libc::read(0, input);
-    take_in(before, got, memory, input, out)
+    take_in(before, got, memory, input, out, kind)
 }

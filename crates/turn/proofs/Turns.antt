@@ -20,7 +20,8 @@ use Rattle.rules.specs.Machine.{ask, give}
 use Rattle.rules.specs.Runs.{call}
 use Rattle.rules.proofs.Proved.{narrow-demands, narrow-making}
 use Rattle.heap.specs.declared.record.Record.{Record}
-use Rattle.heap.specs.Seen.{seen, base}
+use Rattle.rules.specs.Kind.{four}
+use Rattle.heap.specs.Seen.{seen, base, FourPlaces}
 use Rattle.heap.proofs.Apart.{seen-same}
 use Rattle.frame.specs.declared.line.Request.the-variants.{Make, HandOut, TakeBack}
 use Rattle.frame.specs.declared.line.Line.{Line}
@@ -29,18 +30,21 @@ use Rattle.turn.specs.declared.Reply.{Reply}
 use Rattle.turn.specs.Told.{outcomeOf}
 use Rattle.turn.specs.Turned.{withWords, before, onFirst, goingOn, making, turned}
 
--- the contract of `turn`: the record r over the memory ws, and the line l, give the reply t and leave the memory vs
-abbrev pub Turns : Record → List ℕ → Line → Reply → List ℕ → Type 0
-Turns r ws l t vs = outcomeOf t vs ≡ turned (seen r ws) l
+-- the contract of `turn`, with so many cache places: the record r over the memory ws, and the line l, give the reply t and leave the memory vs
+abbrev pub Turns : ℕ → Record → List ℕ → Line → Reply → List ℕ → Type 0
+Turns places r ws l t vs = outcomeOf t vs ≡ turned places (seen r ws) l
 
 -- one outcome
-pub turn-determined : (r : Record) (ws vs us : List ℕ) (l : Line) (t u : Reply)
-    → Turns r ws l t vs
-    → Turns r ws l u us
+pub turn-determined : (places : ℕ) (r : Record) (ws vs us : List ℕ) (l : Line) (t u : Reply)
+    → Turns places r ws l t vs
+    → Turns places r ws l u us
+    -- the records have four places for cached chunks, as their type says
+    → FourPlaces (t .rec)
+    → FourPlaces (u .rec)
     → (t ≡ u) × (vs ≡ us)
-turn-determined r ws vs us l t u e d =
+turn-determined places r ws vs us l t u e d ft fu =
     let g : outcomeOf t vs ≡ outcomeOf u us = e ∙ sym d in
-    let s = seen-same (t .rec) (u .rec) vs us (ap (λ (o : Outcome State). o .after) g) in
+    let s = seen-same (t .rec) (u .rec) vs us ft fu (ap (λ (o : Outcome State). o .after) g) in
     (λ i. record { number = g i .number; value = g i .value; compared = g i .compared; rec = s .0 i }, s .1)
 
 -- after every number but 0 the state is as it was
@@ -60,7 +64,7 @@ made-number ws h = go (ℕ-discrete (make narrow 65529 ws .number) 0)
   where
     go : Dec (make narrow 65529 ws .number ≡ 0) → make narrow 65529 ws .number ≡ 0
     go (yes e) = e
-    go (no n) = absurd (h (narrow-making 1 ws .2 n .0))
+    go (no n) = absurd (h (narrow-making (four .places) ws .2 n .0))
 
 -- making that is refused keeps all
 making-kept : (s : State) (n : ℕ) → Kept s (making s n)
@@ -77,17 +81,19 @@ making-kept s n = fits (leb n (length (s .words)))
     fits false = λ h. refl
 
 -- whatever the line
-turned-kept : (s : State) (l : Line) → Kept s (turned s l)
+turned-kept : (places : ℕ) (s : State) (l : Line) → Kept s (turned places s l)
 unfolding call
-turned-kept s Bad = λ h. refl
-turned-kept s (Good (Make n)) = making-kept s n
-turned-kept s (Good (HandOut size)) = first-kept (s .rest .words) (λ t. hand base 65529 1 t size) s (λ t. narrow-demands 1 .refused (ask size) t)
-turned-kept s (Good (TakeBack p)) = first-kept (s .rest .words) (λ t. back base 65529 1 t p) s (λ t. narrow-demands 1 .refused (give p) t)
+turned-kept places s Bad = λ h. refl
+turned-kept places s (Good (Make n)) = making-kept s n
+turned-kept places s (Good (HandOut size)) = first-kept (s .rest .words) (λ t. hand base 65529 places t size) s (λ t. narrow-demands places .refused (ask size) t)
+turned-kept places s (Good (TakeBack p)) = first-kept (s .rest .words) (λ t. back base 65529 places t p) s (λ t. narrow-demands places .refused (give p) t)
 
 -- a refusal changes nothing
-pub turn-refused : (r : Record) (ws vs : List ℕ) (l : Line) (t : Reply)
-    → Turns r ws l t vs
+pub turn-refused : (places : ℕ) (r : Record) (ws vs : List ℕ) (l : Line) (t : Reply)
+    → Turns places r ws l t vs
     → t .number ≢ 0
+    → FourPlaces (t .rec)
+    → FourPlaces r
     → (t .rec ≡ r) × (vs ≡ ws)
-turn-refused r ws vs l t e h =
-    seen-same (t .rec) r vs ws (ap (λ (o : Outcome State). o .after) e ∙ turned-kept (seen r ws) l (λ z. h (ap (λ (o : Outcome State). o .number) e ∙ z)))
+turn-refused places r ws vs l t e h ft fr =
+    seen-same (t .rec) r vs ws ft fr (ap (λ (o : Outcome State). o .after) e ∙ turned-kept places (seen r ws) l (λ z. h (ap (λ (o : Outcome State). o .number) e ∙ z)))

@@ -35,16 +35,16 @@ goingOn s o = pick (eqb (o .number) 6) (says 6 0 0 s) o
 unfoldable pub making : State → ℕ → Outcome State
 making s n = pick (leb n (length (s .words))) (goingOn s (onFirst n (λ t. make narrow 65529 (t .words)) s)) (says 6 0 0 s)
 
--- a request: making, or one of the rules' calls on the heap in use
-abbrev pub asked : State → Request → Outcome State
-asked s (Make n) = making s n
-asked s (HandOut size) = onFirst (s .rest .words) (λ t. hand base 65529 1 t size) s
-asked s (TakeBack p) = onFirst (s .rest .words) (λ t. back base 65529 1 t p) s
+-- a request, with so many cache places: making, or one of the rules' calls on the heap in use
+abbrev pub asked : ℕ → State → Request → Outcome State
+asked places s (Make n) = making s n
+asked places s (HandOut size) = onFirst (s .rest .words) (λ t. hand base 65529 places t size) s
+asked places s (TakeBack p) = onFirst (s .rest .words) (λ t. back base 65529 places t p) s
 
 -- THE TURN of a line: a line that is no frame gets 7, and nothing changes
-abbrev pub turned : State → Line → Outcome State
-turned s Bad = says 7 0 0 s
-turned s (Good q) = asked s q
+abbrev pub turned : ℕ → State → Line → Outcome State
+turned places s Bad = says 7 0 0 s
+turned places s (Good q) = asked places s q
 
 -- how many words the code lends of a memory that has `most`: the first n, or all
 abbrev pub lentOf : ℕ → ℕ → ℕ

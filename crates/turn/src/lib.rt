@@ -7,11 +7,13 @@
 // number, value and compared count of the answer, the record and every word of the memory.
 ghost use mathlib.Core.Path.{_≡_};
 ghost use Rattle.heap.specs.Seen.{seen};
+ghost use Rattle.heap.specs.Kind.{placesOf};
 ghost use Rattle.turn.specs.Turned.{turned, asked, making, lentOf};
 ghost use Rattle.turn.specs.Told.{outcomeOf, replyOf, refusal};
 use frame::Line;
 use frame::Request;
 use heap::Answer;
+use heap::Kind;
 use heap::Out;
 use heap::Record;
 use words::ByteOffset;
@@ -28,30 +30,30 @@ pub struct Reply {
     pub rec: Record,
 }
 
-// The turn of one line.
-pub fn turn(rec: Record, memory: &mut [u32], line: Line) -> Reply
-    ensures { λ r. ⌜ outcomeOf r (now (memory .exit)) ≡ turned (seen rec (now (memory .entry))) line ⌝ }
+// The turn of one line, for a heap of this kind.
+pub fn turn(rec: Record, memory: &mut [u32], line: Line, kind: Kind) -> Reply
+    ensures { λ r. ⌜ outcomeOf r (now (memory .exit)) ≡ turned (placesOf kind) (seen rec (now (memory .entry))) line ⌝ }
 {
     match line {
         Line::Bad => refuse(rec, 7),
-        Line::Good(request) => ask(rec, memory, request),
+        Line::Good(request) => ask(rec, memory, request, kind),
     }
 }
 
 // Puts a request to the heap.
-fn ask(rec: Record, memory: &mut [u32], request: Request) -> Reply
-    ensures { λ r. ⌜ outcomeOf r (now (memory .exit)) ≡ asked (seen rec (now (memory .entry))) request ⌝ }
+fn ask(rec: Record, memory: &mut [u32], request: Request, kind: Kind) -> Reply
+    ensures { λ r. ⌜ outcomeOf r (now (memory .exit)) ≡ asked (placesOf kind) (seen rec (now (memory .entry))) request ⌝ }
 {
     match request {
         Request::Make(n) => make(rec, memory, n),
         Request::HandOut(size) => {
             let n = lent_words(rec.words, memory.len());
-            let out = rec.hand_out(&mut memory[0..n], size);
+            let out = rec.hand_out(&mut memory[0..n], size, kind);
             tell(out)
         }
         Request::TakeBack(p) => {
             let n = lent_words(rec.words, memory.len());
-            let out = rec.take_back(&mut memory[0..n], ByteOffset(p));
+            let out = rec.take_back(&mut memory[0..n], ByteOffset(p), kind);
             tell(out)
         }
     }

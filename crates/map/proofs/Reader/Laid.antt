@@ -10,7 +10,7 @@ use native.Mathlib.Omega.{arith}
 use lib.ListN.{length, take, drop, set}
 use lib.Seq.{drop-at, drop-drop, sets-eq}
 use borrow.Author.Tests.{eq-eqb}
-use Rattle.rules.specs.Rules.{says}
+use Rattle.rules.specs.Rules.{Outcome, says}
 use Rattle.map.specs.declared.rows.Row.{Row}
 use Rattle.map.specs.declared.rows.Place.{Place}
 use Rattle.map.specs.declared.rows.Line.the-variants.{Good, Bad}
@@ -95,41 +95,45 @@ laying-on n bs room i k r h l e =
 -- ---- a map read
 
 -- the bytes are read as n rows
-abbrev pub ReadAs : List ℕ → ℕ → Type 0
-ReadAs bs n = (rs : List Row) × (length rs ≡ n) × (readAll 65529 1 bs ≡ rows rs)
+abbrev pub ReadAs : ℕ → List ℕ → ℕ → Type 0
+ReadAs places bs n = (rs : List Row) × (length rs ≡ n) × (readAll 65529 places bs ≡ rows rs)
 
 -- what the count of some lines tells of them
-module _ (bs : List ℕ) (some : length bs ≡ 0 → ⊥) where
-  whole : (q : Read) → readFrom 65529 1 (length bs) start 1 bs ≡ q → readAll 65529 1 bs ≡ q
-  whole q e = read-some 65529 1 bs (omega arith) ∙ e
+module _ (places : ℕ) (bs : List ℕ) (some : length bs ≡ 0 → ⊥) where
+  whole : (q : Read) → readFrom 65529 places (length bs) start 1 bs ≡ q → readAll 65529 places bs ≡ q
+  whole q e = read-some 65529 places bs (omega arith) ∙ e
 
-  pub told-bad : (k : ℕ) → Wrong k ≡ counted 0 (readFrom 65529 1 (length bs) start 1 bs) → readAll 65529 1 bs ≡ bad k
-  told-bad k e = whole (bad k) (counted-bad (readFrom 65529 1 (length bs) start 1 bs) k e)
+  pub told-bad : (k : ℕ) → Wrong k ≡ counted 0 (readFrom 65529 places (length bs) start 1 bs) → readAll 65529 places bs ≡ bad k
+  told-bad k e = whole (bad k) (counted-bad (readFrom 65529 places (length bs) start 1 bs) k e)
 
-  pub told-rows : (n : ℕ) → Rows n ≡ counted 0 (readFrom 65529 1 (length bs) start 1 bs) → ReadAs bs n
-  told-rows n e = let t = counted-rows (readFrom 65529 1 (length bs) start 1 bs) n e in (t .0, t .2, whole (rows (t .0)) (t .1))
+  pub told-rows : (n : ℕ) → Rows n ≡ counted 0 (readFrom 65529 places (length bs) start 1 bs) → ReadAs places bs n
+  told-rows n e = let t = counted-rows (readFrom 65529 places (length bs) start 1 bs) n e in (t .0, t .2, whole (rows (t .0)) (t .1))
 
-module _ (bs room : List ℕ) where
+module _ (places : ℕ) (bs room : List ℕ) where
   -- no line at all
-  pub into-none : length bs ≡ 0 → says 7 1 0 room ≡ readInto (readAll 65529 1 bs) room
+  pub into-none : length bs ≡ 0 → says 7 1 0 room ≡ readInto (readAll 65529 places bs) room
   unfolding readAll
   into-none h = rw (eq-eqb (length bs) 0 h)
 
   -- the first bad line
-  pub into-bad : (k : ℕ) → readAll 65529 1 bs ≡ bad k → says 7 k 0 room ≡ readInto (readAll 65529 1 bs) room
+  pub into-bad : (k : ℕ) → readAll 65529 places bs ≡ bad k → says 7 k 0 room ≡ readInto (readAll 65529 places bs) room
   into-bad k e = rw e
 
-  module _ (n : ℕ) (all : ReadAs bs n) where
+  module _ (n : ℕ) (all : ReadAs places bs n) where
     -- too short a room
-    pub into-short : length room / 3 < n → says 6 0 0 room ≡ readInto (readAll 65529 1 bs) room
+    pub into-short : length room / 3 < n → says 6 0 0 room ≡ readInto (readAll 65529 places bs) room
     into-short h = rw (all .2) (sym (laid-short (length (all .0)) (wordsOf (all .0)) room (3 * length (all .0)) (length-words (all .0)) (omega arith)))
 
     -- room enough
-    pub into-done : (out : List ℕ) → n ≤ length room / 3 → out ≡ over (wordsIn n bs) room → says 0 n 0 out ≡ readInto (readAll 65529 1 bs) room
+    pub into-done : (out : List ℕ) → n ≤ length room / 3 → out ≡ over (wordsIn n bs) room → says 0 n 0 out ≡ readInto (readAll 65529 places bs) room
     into-done out h o =
-        let m = read-legal 65529 1 (omega arith) bs (all .0) (all .2) in
+        let m = read-legal 65529 places (omega arith) bs (all .0) (all .2) in
         let w : wordsIn n (linesOf (all .0)) ≡ wordsOf (all .0) =
-        rw (← (all .1)) (words-lines 65529 1 (omega arith) (all .0) start (map-goes 65529 1 (all .0) (m .0))) in
+        rw (← (all .1)) (words-lines 65529 places (omega arith) (all .0) start (map-goes 65529 places (all .0) (m .0))) in
         let v : wordsIn n bs ≡ wordsOf (all .0) = ap (wordsIn n) (m .1) ∙ w in
         rw (all .2, o, v, ← (all .1))
         (sym (laid-fits (length (all .0)) (wordsOf (all .0)) room (3 * length (all .0)) (length-words (all .0)) (omega arith)))
+
+-- as many places as are meant
+pub read-by : (bs room : List ℕ) (o : Outcome (List ℕ)) (m places : ℕ) → o ≡ readInto (readAll 65529 m bs) room → m ≡ places → o ≡ readInto (readAll 65529 places bs) room
+read-by bs room o m places e h = e ∙ ap (λ (n : ℕ). readInto (readAll 65529 n bs) room) h

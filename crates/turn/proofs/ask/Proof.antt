@@ -1,6 +1,7 @@
 -- `turn::ask` meets its contract: each arm is its request's call, on the words that are lent.
 use Rattle.turn.proofs.Laws.{lent-le, make-by, hand-by, back-by}
 use borrow.Author.Needs.{needs}
+use Rattle.heap.specs.Kind.{placesOf}
 use Rattle.turn.proofs.ask.Statement.{statement}
 use Rattle.turn.proofs.ask.Tie as tie
 
@@ -56,19 +57,25 @@ same-length : tie.Need-same-length
 same-length c = search needs
 
 returns : tie.Need-returns
-returns c = make-by (c .before .before .before .before .before .before .before .before .args .rec) (c .before .before .before .before .before .before .before .before .args .memory .now) _ _ (c .before .before .make .result) _ (c .before .before .before .before .before .request .given .1) (c .before .before .make .ensures)
+returns c =
+    let start = c .before .before .before .before .before .before .before .before in
+    make-by (placesOf (start .args .kind)) (start .args .rec) (start .args .memory .now) _ _ (c .before .before .make .result) _ (c .before .before .before .before .before .request .given .1) (c .before .before .make .ensures)
 
 same-length-2 : tie.Need-same-length-2
 same-length-2 c = search needs
 
 returns-2 : tie.Need-returns-2
-returns-2 c = hand-by (c .before .before .before .before .before .before .before .before .before .before .args .rec) (c .before .before .before .before .before .before .before .before .before .before .args .memory .now) _ _ (c .before .before .before .hand-out .result) (c .tell .result) _ (c .before .before .before .before .before .lent-words .ensures) (c .tell .ensures) _ (c .before .before .before .before .before .before .before .request2 .given .1) (c .before .before .before .hand-out .ensures)
+returns-2 c =
+    let start = c .before .before .before .before .before .before .before .before .before .before in
+    hand-by (placesOf (start .args .kind)) (start .args .rec) (start .args .memory .now) _ _ (c .before .before .before .hand-out .result) (c .tell .result) _ (c .before .before .before .before .before .lent-words .ensures) (c .tell .ensures) _ (c .before .before .before .before .before .before .before .request2 .given .1) (c .before .before .before .hand-out .ensures)
 
 same-length-3 : tie.Need-same-length-3
 same-length-3 c = search needs
 
 returns-3 : tie.Need-returns-3
-returns-3 c = back-by (c .before .before .before .before .before .before .before .before .before .before .args .rec) (c .before .before .before .before .before .before .before .before .before .before .args .memory .now) _ _ (c .before .before .before .take-back .result) (c .tell2 .result) _ (c .before .before .before .before .before .lent-words2 .ensures) (c .tell2 .ensures) _ (c .before .before .before .before .before .before .before .request3 .given .1) (c .before .before .before .take-back .ensures)
+returns-3 c =
+    let start = c .before .before .before .before .before .before .before .before .before .before in
+    back-by (placesOf (start .args .kind)) (start .args .rec) (start .args .memory .now) _ _ (c .before .before .before .take-back .result) (c .tell2 .result) _ (c .before .before .before .before .before .lent-words2 .ensures) (c .tell2 .ensures) _ (c .before .before .before .before .before .before .before .request3 .given .1) (c .before .before .before .take-back .ensures)
 
 pub ask-spec : {M : Type 1} → statement M
 ask-spec =

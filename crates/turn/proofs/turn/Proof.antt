@@ -1,6 +1,7 @@
 -- `turn::turn` meets its contract: a frame's request is asked, any other line is refused.
 use Rattle.turn.proofs.Laws.{good-by, bad-by}
 use borrow.Author.Needs.{needs}
+use Rattle.heap.specs.Kind.{placesOf}
 use Rattle.turn.proofs.turn.Statement.{statement}
 use Rattle.turn.proofs.turn.Tie as tie
 
@@ -17,13 +18,17 @@ ask-requires : tie.Need-ask-requires
 ask-requires c κs = search needs
 
 returns : tie.Need-returns
-returns c = bad-by (c .before .before .before .before .args .rec) (c .before .before .before .before .args .memory .now) _ _ (c .before .enum-told .given .1) (c .refuse .ensures)
+returns c =
+    let start = c .before .before .before .before in
+    bad-by (placesOf (start .args .kind)) (start .args .rec) (start .args .memory .now) _ _ (c .before .enum-told .given .1) (c .refuse .ensures)
 
 same-length : tie.Need-same-length
 same-length c = search needs
 
 returns-2 : tie.Need-returns-2
-returns-2 c = good-by (c .before .before .before .before .before .before .before .before .args .rec) (c .before .before .before .before .before .before .before .before .args .memory .now) _ (c .before .before .ask .result) _ _ (c .before .before .before .before .before .line .given .1) (c .before .before .ask .ensures)
+returns-2 c =
+    let start = c .before .before .before .before .before .before .before .before in
+    good-by (placesOf (start .args .kind)) (start .args .rec) (start .args .memory .now) _ (c .before .before .ask .result) _ _ (c .before .before .before .before .before .line .given .1) (c .before .before .ask .ensures)
 
 pub turn-spec : {M : Type 1} → statement M
 turn-spec =

@@ -33,7 +33,7 @@ returns c =
     let at-write-answer = c .before .before .before in
     let at-turn = at-write-answer .before .before .before .before in
     let entry = at-turn .before .before .before .before in
-    told-by (entry .args .rec) (entry .args .memory .now) _ (entry .args .out .now) _ _ (at-turn .turn .result) _ (entry .pre) (at-turn .turn .ensures)
+    told-by _ (entry .args .rec) (entry .args .memory .now) _ (entry .args .out .now) _ _ (at-turn .turn .result) _ (entry .pre) (at-turn .turn .ensures)
     (at-write-answer .write-answer .ensures)
 
 pub answer-spec : {M : Type 1} → statement M

@@ -5,21 +5,22 @@ use mathlib.Core.List.{[]}
 use Prim.Native.Nat.{_-_, _*_, _≤_}
 use native.Mathlib.Omega.{arith}
 use lib.ListN.{length, take}
+use Rattle.heap.specs.Kind.{placesOf}
 use Rattle.feed.specs.Feeding.{standing, stands, steps}
 use Rattle.feed.proofs.Laws.{steps-none, steps-on}
 use Rattle.feed.proofs.pieces.feed.Statement.{statement}
 use Rattle.feed.proofs.pieces.feed.Tie as tie
 
 abbrev Inv-loop : tie.InvT-loop
-Inv-loop memory₀ input out₀ fed₀ memory out fed =
-    (stands fed memory out ≡ steps (standing (fed₀ .trace) memory₀ []) (take (fed .taken) input)) × (fed .taken ≤ length input) × (fed .filled ≤ length out)
+Inv-loop memory₀ input out₀ kind fed₀ memory out fed =
+    (stands fed memory out ≡ steps (placesOf kind) (standing (fed₀ .trace) memory₀ []) (take (fed .taken) input)) × (fed .taken ≤ length input) × (fed .filled ≤ length out)
     × (length memory ≡ length memory₀) × (length out ≡ length out₀) × (fed .filled ≤ 19 * fed .taken)
 
 abbrev μ-loop : tie.MeasureT-loop
-μ-loop memory₀ input out₀ fed₀ memory out fed = length input - fed .taken
+μ-loop memory₀ input out₀ kind fed₀ memory out fed = length input - fed .taken
 
 loop-holds : tie.Need-loop-holds Inv-loop μ-loop
-loop-holds c = (steps-none _, omega arith, omega arith, refl, refl, omega arith)
+loop-holds c = (steps-none _ _, omega arith, omega arith, refl, refl, omega arith)
 
 sub-if2 : tie.Need-sub-if2 Inv-loop μ-loop
 sub-if2 c =
@@ -43,7 +44,7 @@ loop-again c =
     let at-one-line = c .before .before .before .before in
     let at-loop = at-one-line .before .before .before .before .before .before .before in
     let entry = at-loop .before .before .before .before in (
-      steps-on _ _ _ (entry .args .input .now) _ _ (at-loop .loop .inv .1) (at-one-line .one-line .ensures .3) (at-loop .loop .inv .0)
+      steps-on _ _ _ _ (entry .args .input .now) _ _ (at-loop .loop .inv .1) (at-one-line .one-line .ensures .3) (at-loop .loop .inv .0)
           (at-one-line .one-line .ensures .0) (at-one-line .one-line .ensures .1),
       at-one-line .one-line .ensures .3,
       omega (arith, at-one-line .one-line .ensures .4, at-one-line .one-line .kept .1 .1 .1 .0),

@@ -30,8 +30,8 @@ add-taken c = search needs
 answer-requires : tie.Need-answer-requires
 answer-requires c κs = search needs
 
-add-t25 : tie.Need-add-t25
-add-t25 c =
+add-t26 : tie.Need-add-t26
+add-t26 c =
     let entry =
     c .before .before .before .before .before .before .before .before .before .before .before .before .before .before .before .before .before .before in
     omega (arith, entry .pre .1, entry .good)
@@ -52,7 +52,7 @@ returns c =
     let read = read-rest _ (entry .args .input .now) (entry .args .fed .taken) (at-read-on .read-on .result) (at-read-on .read-on .ensures .0) in
     let part = length-take-le (length (entry .args .input .now) - entry .args .fed .taken) (drop (entry .args .fed .taken) (entry .args .input .now))
     (omega (arith, length-drop (entry .args .fed .taken) (entry .args .input .now))) in (
-      took-whole stood _ _ read _ _ (at-1 .if1 .taken) (at-answer .answer .ensures),
+      took-whole _ stood _ _ read _ _ (at-1 .if1 .taken) (at-answer .answer .ensures),
       ap (λ (x : Reading). x .rest) read,
       omega (arith, at-read-on .read-on .ensures .1, part, entry .pre .0),
       omega (arith, at-read-on .read-on .ensures .2, part, entry .pre .0),
@@ -68,7 +68,7 @@ returns-2 c =
     let read = read-rest _ (entry .args .input .now) (entry .args .fed .taken) (at-read-on .read-on .result) (at-read-on .read-on .ensures .0) in
     let part = length-take-le (length (entry .args .input .now) - entry .args .fed .taken) (drop (entry .args .fed .taken) (entry .args .input .now))
     (omega (arith, length-drop (entry .args .fed .taken) (entry .args .input .now))) in (
-      took-open stood _ _ read (c .if1 .left),
+      took-open _ stood _ _ read (c .if1 .left),
       ap (λ (x : Reading). x .rest) read,
       omega (arith, at-read-on .read-on .ensures .1, part, entry .pre .0),
       omega (arith, at-read-on .read-on .ensures .2, part, entry .pre .0),
@@ -86,7 +86,7 @@ one-line-spec =
     read-on-requires
     add-taken
     answer-requires
-    add-t25
+    add-t26
     same-length
     same-length-2
     returns

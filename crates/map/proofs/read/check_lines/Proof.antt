@@ -15,11 +15,11 @@ use Rattle.map.proofs.read.check_lines.Statement.{statement}
 use Rattle.map.proofs.read.check_lines.Tie as tie
 
 abbrev Inv-loop : tie.InvT-loop
-Inv-loop lines p₀ i₀ n₀ p i n =
-    (counted 0 (readFrom 65529 1 (length lines) start 1 lines) ≡ tried 65529 1 p lines i n) × (i ≤ length lines) × (n ≤ i)
+Inv-loop lines places p₀ i₀ n₀ p i n =
+    (counted 0 (readFrom 65529 places (length lines) start 1 lines) ≡ tried 65529 places p lines i n) × (i ≤ length lines) × (n ≤ i)
 
 abbrev μ-loop : tie.MeasureT-loop
-μ-loop lines p₀ i₀ n₀ p i n = length lines - i
+μ-loop lines places p₀ i₀ n₀ p i n = length lines - i
 
 -- a line that is a row ends inside the bytes
 inside : (c : tie.After-line Inv-loop μ-loop)
@@ -27,7 +27,7 @@ inside : (c : tie.After-line Inv-loop μ-loop)
 inside c = row-inside _ _ _ (sym (c .line .given .1) ∙ c .before .before .line-at .ensures)
 
 loop-holds : tie.Need-loop-holds Inv-loop μ-loop
-loop-holds c = (tried-start 65529 1 (c .before .args .lines .now), omega arith, omega arith)
+loop-holds c = (tried-start 65529 (c .before .args .places) (c .before .args .lines .now), omega arith, omega arith)
 
 line-at-requires : tie.Need-line-at-requires Inv-loop μ-loop
 line-at-requires c κs = search needs
@@ -38,8 +38,8 @@ enum-known-line c = search needs
 enum-told : tie.Need-enum-told Inv-loop μ-loop
 enum-told c = search needs
 
-add-t10 : tie.Need-add-t10 Inv-loop μ-loop
-add-t10 c = search needs
+add-t11 : tie.Need-add-t11 Inv-loop μ-loop
+add-t11 c = search needs
 
 returns : tie.Need-returns Inv-loop μ-loop
 returns c =
@@ -52,8 +52,8 @@ returns c =
 follows-requires : tie.Need-follows-requires Inv-loop μ-loop
 follows-requires c κs = search needs
 
-add-t11 : tie.Need-add-t11 Inv-loop μ-loop
-add-t11 c = search needs
+add-t12 : tie.Need-add-t12 Inv-loop μ-loop
+add-t12 c = search needs
 
 returns-2 : tie.Need-returns-2 Inv-loop μ-loop
 returns-2 c =
@@ -67,7 +67,8 @@ returns-2 c =
 place-after-requires : tie.Need-place-after-requires Inv-loop μ-loop
 place-after-requires c κs =
     let f = fits-true _ _ _ _ (sym (c .before .follows .ensures) ∙ not-false _ (c .if1 .left)) in
-    omega (arith, f .room, f .stands .within)
+    let here = c .before .before .before .before .before .before .before in
+    omega (arith, f .room, f .stands .within, here .before .before .pre)
 
 add-i : tie.Need-add-i Inv-loop μ-loop
 add-i c = omega (arith, inside (c .before .before .before .before))
@@ -103,10 +104,10 @@ check-lines-spec =
     line-at-requires
     enum-known-line
     enum-told
-    add-t10
+    add-t11
     returns
     follows-requires
-    add-t11
+    add-t12
     returns-2
     place-after-requires
     add-i

@@ -1,59 +1,28 @@
--- `map::read::read_map` meets its contract: no line, a bad line, too short a room, and all rows laid.
-use mathlib.Core.Path.{sym, _∙_}
+-- `map::read::read_map` meets its contract: it reads with its kind's places.
+use native.Mathlib.Omega.{arith}
 use borrow.Author.Needs.{needs}
-use Rattle.map.proofs.Reader.Laid.{ReadAs, told-bad, told-rows, into-none, into-bad, into-short, into-done}
+use Rattle.heap.proofs.Answers.{places-few}
+use Rattle.map.proofs.Reader.Laid.{read-by}
 use Rattle.map.proofs.read.read_map.Statement.{statement}
 use Rattle.map.proofs.read.read_map.Tie as tie
 
--- all lines are good, so many
-all : (c : tie.After-checked2) → ReadAs (c .before .before .before .before .before .before .args .lines .now) (c .checked2 .given .0 .0)
-all c =
-    let some = c .before .before .before in
-    told-rows (some .before .before .before .args .lines .now) (some .if1 .left) _ (sym (c .checked2 .given .1) ∙ c .before .before .check-lines .ensures)
+places-requires : tie.Need-places-requires
+places-requires c κs = search needs
 
-returns : tie.Need-returns
-returns c = into-none (c .before .before .before .args .lines .now) _ (c .if1 .taken)
-
-check-lines-requires : tie.Need-check-lines-requires
-check-lines-requires c κs = search needs
-
-enum-known-checked : tie.Need-enum-known-checked
-enum-known-checked c = search needs
-
-enum-known-checked-2 : tie.Need-enum-known-checked-2
-enum-known-checked-2 c = search needs
-
-returns-2 : tie.Need-returns-2
-returns-2 c = into-short _ _ _ (all (c .before .before)) (c .if2 .taken)
-
-lay-rows-requires : tie.Need-lay-rows-requires
-lay-rows-requires c κs = search needs
-
-returns-3 : tie.Need-returns-3
-returns-3 c =
-    let some = c .before .before .before .before in
-    into-bad _ _ _
-    (told-bad (some .before .before .before .args .lines .now) (some .if1 .left) _
-    (sym (c .before .checked .given .1) ∙ c .before .before .before .check-lines .ensures))
+read-lines-requires : tie.Need-read-lines-requires
+read-lines-requires c κs =
+    let start = c .before .before .before .before in
+    let few = places-few (start .args .kind) in
+    omega (arith, c .before .places .ensures, few)
 
 same-length : tie.Need-same-length
 same-length c = search needs
 
-returns-4 : tie.Need-returns-4
-returns-4 c =
-    into-done _ _ _ (all (c .before .before .before .before .before .before)) _ (c .before .before .before .before .if2 .left)
-    (c .before .before .lay-rows .ensures)
+returns : tie.Need-returns
+returns c =
+    let told = c .before .before in
+    let start = told .before .before .before .before .before in
+    read-by (start .args .lines .now) (start .args .room .now) _ _ _ (told .read-lines .ensures) (told .before .before .places .ensures)
 
 pub read-map-spec : {M : Type 1} → statement M
-read-map-spec =
-    tie.close
-    (tie.spec
-    returns
-    check-lines-requires
-    enum-known-checked
-    enum-known-checked-2
-    returns-2
-    lay-rows-requires
-    returns-3
-    same-length
-    returns-4)
+read-map-spec = tie.close (tie.spec places-requires read-lines-requires same-length returns)

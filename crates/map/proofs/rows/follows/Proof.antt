@@ -19,22 +19,22 @@ returns : tie.Need-returns
 returns c = follows-not _ _ _ _ (sym (not-true _ (c .if1 .taken)) ∙ c .before .stands .ensures)
 
 returns-2 : tie.Need-returns-2
-returns-2 c = follows-cached _ _ (placed (c .before .before .before)) (c .before .if2 .taken)
+returns-2 c = follows-cached _ _ _ (placed (c .before .before .before)) (c .before .if2 .taken)
 
 returns-3 : tie.Need-returns-3
-returns-3 c = follows-over _ _ (placed (c .before .before .before .before)) (c .if3 .taken)
+returns-3 c = follows-over _ _ _ (placed (c .before .before .before .before)) (c .if3 .taken)
 
 returns-4 : tie.Need-returns-4
 returns-4 c =
     let few = c .before .before in
     let other = few .before .before in
-    follows-live _ _ (placed (other .before .before)) (few .if3 .left) (other .if2 .left) (c .if4 .taken)
+    follows-live _ _ _ (placed (other .before .before)) (few .if3 .left) (other .if2 .left) (c .if4 .taken)
 
 returns-5 : tie.Need-returns-5
 returns-5 c =
     let few = c .before .before .before in
     let other = few .before .before in
-    follows-free _ _ (placed (other .before .before)) (few .if3 .left) (other .if2 .left) (c .before .if4 .left)
+    follows-free _ _ _ (placed (other .before .before)) (few .if3 .left) (other .if2 .left) (c .before .if4 .left)
 
 pub follows-spec : {M : Type 1} → statement M
 follows-spec = tie.close (tie.spec stands-requires returns returns-2 returns-3 returns-4 returns-5)

@@ -7,7 +7,8 @@ use lib.ListN.{length}
 use borrow.Rule.Slice.PartMut.{same-len-mid}
 use borrow.Author.Needs.{needs}
 use Rattle.words.specs.Tags.{at}
-use Rattle.audit.specs.Shown.{cachedOf}
+use Rattle.words.specs.Numbers.{numbers}
+use Rattle.cache.specs.Places.{cachedOf}
 use Rattle.rules.specs.Chunks.{total}
 use Rattle.rules.specs.Place.{tile}
 use Rattle.map.specs.Rows.{linesOf}
@@ -21,7 +22,7 @@ use Rattle.map.proofs.write.write_lines.Tie as tie
 
 abbrev Inv-loop : tie.InvT-loop
 Inv-loop heap cached room₀ fuel₀ e₀ i₀ room fuel e i =
-    (over (linesOf (mapOf (cachedOf (cached .0)) 0 (chunksIn heap))) room₀ ≡ overFrom i (linesOf (mapOf (cachedOf (cached .0)) e (tile (at heap) fuel e))) room)
+    (over (linesOf (mapOf (cachedOf (numbers cached)) 0 (chunksIn heap))) room₀ ≡ overFrom i (linesOf (mapOf (cachedOf (numbers cached)) e (tile (at heap) fuel e))) room)
     × (e + total (tile (at heap) fuel e) ≤ 262112) × (i + 19 * length (tile (at heap) fuel e) ≤ length room) × (length room ≡ length room₀)
 
 abbrev μ-loop : tie.MeasureT-loop

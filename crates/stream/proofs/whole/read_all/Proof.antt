@@ -4,17 +4,18 @@ use mathlib.Core.Bool.{false≢true}
 use native.Mathlib.Omega.{arith}
 use lib.ListN.{length}
 use borrow.Author.Needs.{needs}
+use Rattle.heap.specs.Kind.{placesOf}
 use Rattle.stream.specs.Ran.{Going}
 use Rattle.stream.proofs.Laws.{going-first, going-on, turnsLeft, turns-less, going-fits}
 use Rattle.stream.proofs.whole.read_all.Statement.{statement}
 use Rattle.stream.proofs.whole.read_all.Tie as tie
 
 abbrev Inv-loop : tie.InvT-loop
-Inv-loop memory₀ input₀ out₀ answering s₀ memory input out s =
-    Going answering memory₀ s memory × (length memory ≡ length memory₀) × (length input ≡ length input₀) × (length out ≡ length out₀)
+Inv-loop memory₀ input₀ out₀ answering kind s₀ memory input out s =
+    Going (placesOf kind) answering memory₀ s memory × (length memory ≡ length memory₀) × (length input ≡ length input₀) × (length out ≡ length out₀)
 
 abbrev μ-loop : tie.MeasureT-loop
-μ-loop memory₀ input₀ out₀ answering s₀ memory input out s = turnsLeft s
+μ-loop memory₀ input₀ out₀ answering kind s₀ memory input out s = turnsLeft s
 
 start-requires : tie.Need-start-requires Inv-loop μ-loop
 start-requires c κs = search needs

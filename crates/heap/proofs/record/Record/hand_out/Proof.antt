@@ -2,15 +2,20 @@
 use borrow.Author.Needs.{needs}
 use mathlib.Core.Path.{refl}
 use borrow.Author.Tests.{not-true, not-false}
+use Rattle.heap.specs.Kind.{placesOf}
 use Rattle.heap.proofs.Answers.{hand-zero, hand-large, hand-damaged, rounded-served, hand-served}
 use Rattle.heap.proofs.record.Record.hand_out.Statement.{statement}
 use Rattle.heap.proofs.record.Record.hand_out.Tie as tie
 
 returns : tie.Need-returns
-returns c = hand-zero (c .before .before .args .self) (c .before .before .args .heap .now) _ (c .if1 .taken)
+returns c =
+    let start = c .before .before in
+    hand-zero (placesOf (start .args .kind)) (start .args .self) (start .args .heap .now) _ (c .if1 .taken)
 
 returns-2 : tie.Need-returns-2
-returns-2 c = hand-large (c .before .before .before .args .self) (c .before .before .before .args .heap .now) _ (c .before .if1 .left) (c .if2 .taken)
+returns-2 c =
+    let start = c .before .before .before in
+    hand-large (placesOf (start .args .kind)) (start .args .self) (start .args .heap .now) _ (c .before .if1 .left) (c .if2 .taken)
 
 audit-requires : tie.Need-audit-requires
 audit-requires c κs = search needs
@@ -19,7 +24,10 @@ same-length : tie.Need-same-length
 same-length c = search needs
 
 returns-3 : tie.Need-returns-3
-returns-3 c = hand-damaged (c .before .before .before .before .before .before .args .self) (c .before .before .before .before .before .before .args .heap .now) _ _ (c .before .before .before .before .if1 .left) (c .before .before .before .if2 .left) (c .before .audit .ensures) (not-true _ (c .if3 .taken))
+returns-3 c =
+    let start = c .before .before .before .before .before .before in
+    let tested = hand-damaged (placesOf (start .args .kind)) (start .args .self) (start .args .heap .now) _ _ in
+    tested (c .before .before .before .before .if1 .left) (c .before .before .before .if2 .left) (c .before .audit .ensures) (not-true _ (c .if3 .taken))
 
 rounded-size-requires : tie.Need-rounded-size-requires
 rounded-size-requires c κs = search needs
@@ -28,13 +36,20 @@ cast-z : tie.Need-cast-z
 cast-z c = search needs
 
 serve-requires : tie.Need-serve-requires
-serve-requires c κs = rounded-served (c .before .before .before .before .before .before .before .before .args .self) (c .before .before .before .before .before .before .before .before .args .heap .now) _ _ _ (c .before .before .before .audit .ensures) (not-false _ (c .before .before .if3 .left)) (c .before .rounded-size .ensures)
+serve-requires c κs =
+    let start = c .before .before .before .before .before .before .before .before in
+    let tested = rounded-served (start .args .kind) (start .args .self) (start .args .heap .now) _ _ _ in
+    tested (c .before .before .before .audit .ensures) (not-false _ (c .before .before .if3 .left)) (c .before .rounded-size .ensures)
 
 same-length-2 : tie.Need-same-length-2
 same-length-2 c = search needs
 
 returns-4 : tie.Need-returns-4
-returns-4 c = hand-served (c .before .before .before .before .before .before .before .before .before .before .before .args .self) (c .before .before .before .before .before .before .before .before .before .before .before .args .heap .now) _ _ _ _ _ (c .before .before .before .before .before .before .before .before .before .if1 .left) (c .before .before .before .before .before .before .before .before .if2 .left) (c .before .before .before .before .before .before .audit .ensures) (not-false _ (c .before .before .before .before .before .if3 .left)) (c .before .before .before .before .rounded-size .ensures) refl (c .before .before .serve .ensures)
+returns-4 c =
+    let start = c .before .before .before .before .before .before .before .before .before .before .before in
+    let tested = hand-served (placesOf (start .args .kind)) (start .args .self) (start .args .heap .now) _ _ _ _ _ in
+    let passed = tested (c .before .before .before .before .before .before .before .before .before .if1 .left) (c .before .before .before .before .before .before .before .before .if2 .left) (c .before .before .before .before .before .before .audit .ensures) (not-false _ (c .before .before .before .before .before .if3 .left)) in
+    passed (c .before .before .before .before .rounded-size .ensures) refl (c .before .before .serve .ensures)
 
 pub hand-out-spec : {M : Type 1} → statement M
 hand-out-spec =

@@ -1,14 +1,22 @@
--- `heap::record::Record::serve` meets its contract: the cached chunk whole, its payload emptied, else what the lists give.
+-- `heap::record::Record::serve` meets its contract: the oldest cached chunk that serves, whole, its payload emptied, else what the lists give.
 use borrow.Author.Needs.{needs}
 use native.Mathlib.Omega.{arith}
-use mathlib.Core.Path.{refl}
+use mathlib.Core.Path.{refl, sym, _∙_}
 use Prim.Native.Nat.{_<_, _^_}
+use lib.ListN.{length-map}
+use Rattle.heap.specs.Seen.{FourPlaces}
 use Rattle.heap.proofs.Answers.{served-safe, served-cached, served-listed}
 use Rattle.heap.proofs.record.Record.serve.Statement.{statement}
 use Rattle.heap.proofs.record.Record.serve.Tie as tie
 
-cache-serves-requires : tie.Need-cache-serves-requires
-cache-serves-requires c κs = search needs
+choice-requires : tie.Need-choice-requires
+choice-requires c κs = search needs
+
+mul-link-to-hdr : tie.Need-mul-link-to-hdr
+mul-link-to-hdr c = search needs
+
+array-copy-out-link-to-hdr : tie.Need-array-copy-out-link-to-hdr
+array-copy-out-link-to-hdr c = search needs
 
 link-to-hdr-requires : tie.Need-link-to-hdr-requires
 link-to-hdr-requires c κs = search needs
@@ -21,9 +29,20 @@ clear-payload-requires c κs = search needs
 
 add-held : tie.Need-add-held
 add-held c =
-    let below : c .before .before .before .before .before .before .before .before .before .before .before .before .args .self .committed < 2 ^ 32 = omega (arith, c .before .before .before .before .before .before .before .before .before .before .before .before .good) in
-    let sum = served-safe (c .before .before .before .before .before .before .before .before .before .before .before .before .args .self) (c .before .before .before .before .before .before .before .before .before .before .before .before .args .heap .now) (c .before .before .before .before .before .before .before .before .before .before .before .before .args .z) _ _ _ (c .before .before .before .before .before .before .before .before .before .before .before .before .pre) below (c .before .before .before .before .before .before .before .before .before .cache-serves .ensures) (c .before .before .before .before .before .before .before .before .if1 .taken) (c .before .before .before .before .before .before .before .link-to-hdr .ensures) (c .before .before .before .before .before .get-hdr-chunk-size .ensures) in
+    let start = c .before .before .before .before .before .before .before .before .before .before .before .before .before .before in
+    let chosen = c .before .before .before .before .before .before .before .before .before .before in
+    let header = c .before .before .before .before .before .before .before in
+    let size = c .before .before .before .before .before in
+    let self = start .args .self in
+    let held = start .good .0 .1 .1 .1 .1 .0 .1 .0 .1 in
+    let four : FourPlaces (start .args .self) = sym (length-map (start .args .self .cached) _) ∙ held in
+    let below : start .args .self .committed < 2 ^ 32 = omega (arith, start .good) in
+    let one = served-safe self (start .args .heap .now) (start .args .z) _ (start .pre) four (chosen .choice .ensures) in
+    let sum = one _ _ (c .before .before .before .before .before .before .before .before .before .if1 .taken) below (header .link-to-hdr .ensures) (size .get-hdr-chunk-size .ensures) in
     record { fits = omega (arith, sum) }
+
+left-out-requires : tie.Need-left-out-requires
+left-out-requires c κs = search needs
 
 hdr-to-payload-requires : tie.Need-hdr-to-payload-requires
 hdr-to-payload-requires c κs = search needs
@@ -36,9 +55,18 @@ same-length c = search needs
 
 returns : tie.Need-returns
 returns c =
-    let below : c .before .before .before .before .before .before .before .before .before .before .before .before .before .before .args .self .cached .0 < 65536 = omega (arith, c .before .before .before .before .before .before .before .before .before .before .before .before .before .before .good) in
-    served-cached (c .before .before .before .before .before .before .before .before .before .before .before .before .before .before .args .self) (c .before .before .before .before .before .before .before .before .before .before .before .before .before .before .args .heap .now) (c .before .before .before .before .before .before .before .before .before .before .before .before .before .before .args .z) (c .with-cached .result) _ _ _ _ _ _ below (c .before .before .before .before .before .before .before .before .before .before .before .cache-serves .ensures) (c .before .before .before .before .before .before .before .before .before .before .if1 .taken) (c .before .before .before .before .before .before .before .before .before .link-to-hdr .ensures)
-    (c .before .before .before .before .before .before .before .get-hdr-chunk-size .ensures) (c .before .before .before .before .before .clear-payload .ensures) refl (c .before .hdr-to-payload .ensures) (c .with-cached .ensures)
+    let start = c .before .before .before .before .before .before .before .before .before .before .before .before .before .before .before .before .before in
+    let chosen = c .before .before .before .before .before .before .before .before .before .before .before .before .before in
+    let header = c .before .before .before .before .before .before .before .before .before .before in
+    let size = c .before .before .before .before .before .before .before .before in
+    let cleared = c .before .before .before .before .before .before in
+    let others = c .before .before in
+    let self = start .args .self in
+    let held = start .good .0 .1 .1 .1 .1 .0 .1 .0 .1 in
+    let four : FourPlaces (start .args .self) = sym (length-map (start .args .self .cached) _) ∙ held in
+    let one = served-cached self (start .args .heap .now) (start .args .z) _ (start .pre) four (chosen .choice .ensures) in
+    let from = one (c .with-cached .result) _ (others .left-out .result) _ _ _ _ (c .before .before .before .before .before .before .before .before .before .before .before .before .if1 .taken) (header .link-to-hdr .ensures) (size .get-hdr-chunk-size .ensures) in
+    from (cleared .clear-payload .ensures) refl (c .before .hdr-to-payload .ensures) (others .left-out .ensures) (c .with-cached .ensures)
 
 serve-listed-requires : tie.Need-serve-listed-requires
 serve-listed-requires c κs = search needs
@@ -47,17 +75,27 @@ same-length-2 : tie.Need-same-length-2
 same-length-2 c = search needs
 
 returns-2 : tie.Need-returns-2
-returns-2 c = served-listed (c .before .before .before .before .before .before .before .before .args .self) (c .before .before .before .before .before .before .before .before .args .heap .now) (c .before .before .before .before .before .before .before .before .args .z) _ _ (c .before .before .before .before .before .cache-serves .ensures) (c .before .before .before .before .if1 .left) (c .before .before .serve-listed .ensures)
+returns-2 c =
+    let start = c .before .before .before .before .before .before .before .before .before in
+    let chosen = c .before .before .before .before .before in
+    let self = start .args .self in
+    let held = start .good .0 .1 .1 .1 .1 .0 .1 .0 .1 in
+    let four : FourPlaces (start .args .self) = sym (length-map (start .args .self .cached) _) ∙ held in
+    let one = served-listed self (start .args .heap .now) (start .args .z) _ (start .pre) four (chosen .choice .ensures) in
+    one _ (c .before .before .before .before .if1 .left) (c .before .before .serve-listed .ensures)
 
 pub serve-spec : {M : Type 1} → statement M
 serve-spec =
     tie.close
     (tie.spec
-    cache-serves-requires
+    choice-requires
+    mul-link-to-hdr
+    array-copy-out-link-to-hdr
     link-to-hdr-requires
     get-hdr-chunk-size-requires
     clear-payload-requires
     add-held
+    left-out-requires
     hdr-to-payload-requires
     with-cached-requires
     same-length

@@ -1,15 +1,33 @@
--- `heap::record::Record::settle` meets its contract: cached at once, or after the older chunk's release, whose sums soundness keeps in range (`settle-safe`).
+-- `heap::record::Record::settle` meets its contract: cached in a free place, or after the oldest one's release, whose sums soundness keeps in range.
 use borrow.Author.Needs.{needs}
-use native.Mathlib.Omega.{arith}
+use mathlib.Core.Path.{sym, _∙_}
+use lib.ListN.{length-map}
+use Rattle.heap.specs.Seen.{FourPlaces}
 use Rattle.heap.proofs.Answers.{settled-first, settle-safe, settled-next}
 use Rattle.heap.proofs.record.Record.settle.Statement.{statement}
 use Rattle.heap.proofs.record.Record.settle.Tie as tie
+
+used-places-requires : tie.Need-used-places-requires
+used-places-requires c κs = search needs
+
+put-last-requires : tie.Need-put-last-requires
+put-last-requires c κs = search needs
 
 with-cached-requires : tie.Need-with-cached-requires
 with-cached-requires c κs = search needs
 
 returns : tie.Need-returns
-returns c = settled-first (c .before .before .before .before .before .args .self) (c .before .before .before .before .before .args .heap .now) (c .before .before .before .before .before .args .held) (c .before .before .before .before .before .args .l) (c .with-cached .result) (c .before .if1 .taken) (λ q. omega (arith, c .before .before .before .before .before .pre .1, q)) (c .with-cached .ensures)
+returns c =
+    let start = c .before .before .before .before .before .before in
+    let counted = c .before .before .before in
+    let pre = start .pre in
+    let held = start .good .0 .1 .1 .1 .1 .0 .1 .0 .1 in
+    let four : FourPlaces (start .args .self) = sym (length-map (start .args .self .cached) _) ∙ held in
+    let one = settled-first (start .args .places) (start .args .self) (start .args .heap .now) (start .args .held) (start .args .l) _ (pre .0) (counted .used-places .ensures) in
+    one (c .with-cached .result) (c .before .put-last .result) four (pre .3) (c .before .before .if1 .taken) (pre .1) (c .before .put-last .ensures) (c .with-cached .ensures)
+
+array-copy-out-old : tie.Need-array-copy-out-old
+array-copy-out-old c = search needs
 
 link-to-hdr-requires : tie.Need-link-to-hdr-requires
 link-to-hdr-requires c κs = search needs
@@ -18,7 +36,21 @@ get-hdr-chunk-size-requires : tie.Need-get-hdr-chunk-size-requires
 get-hdr-chunk-size-requires c κs = search needs
 
 release-chunk-requires : tie.Need-release-chunk-requires
-release-chunk-requires c κs = settle-safe (c .before .before .before .before .before .before .before .before .args .self) (c .before .before .before .before .before .before .before .before .args .heap .now) (c .before .before .before .before .before .before .before .before .args .held) (c .before .before .before .before .before .before .before .before .args .l) _ _ (c .before .before .before .before .before .before .before .before .pre .0) (c .before .before .before .before .if1 .left) (c .before .before .link-to-hdr .ensures) (c .before .get-hdr-chunk-size .ensures)
+release-chunk-requires c κs =
+    let start = c .before .before .before .before .before .before .before .before .before in
+    let counted = c .before .before .before .before .before .before in
+    let pre = start .pre in
+    let one = settle-safe (start .args .places) (start .args .self) (start .args .heap .now) (start .args .held) (start .args .l) _ (pre .0) (counted .used-places .ensures) in
+    one (c .before .before .before .before .before .if1 .left) (pre .2) _ _ (c .before .before .link-to-hdr .ensures) (c .before .get-hdr-chunk-size .ensures)
+
+left-out-requires : tie.Need-left-out-requires
+left-out-requires c κs = search needs
+
+monus-requires : tie.Need-monus-requires
+monus-requires c κs = search needs
+
+put-last-requires-2 : tie.Need-put-last-requires-2
+put-last-requires-2 c κs = search needs
 
 count-out-requires : tie.Need-count-out-requires
 count-out-requires c κs = search needs
@@ -27,18 +59,31 @@ same-length : tie.Need-same-length
 same-length c = search needs
 
 returns-2 : tie.Need-returns-2
-returns-2 c = settled-next (c .before .before .before .before .before .before .before .before .before .before .before .before .args .self) (c .before .before .before .before .before .before .before .before .before .before .before .before .args .heap .now) (c .before .before .before .before .before .before .before .before .before .before .before .before .args .held) (c .before .before .before .before .before .before .before .before .before .before .before .before .args .l) (c .before .before .before .release-chunk .result) (c .count-out .result) _ _ _ (c .before .before .before .before .before .before .before .before .if1 .left) (λ q. omega (arith, c .before .before .before .before .before .before .before .before .before .before .before .before .pre .1, q)) (c .before .before .before .before .before .before .link-to-hdr .ensures) (c .before .before .before .before .before .get-hdr-chunk-size .ensures)
-    (c .before .before .before .release-chunk .ensures) (c .count-out .ensures)
+returns-2 c =
+    let start = c .before .before .before .before .before .before .before .before .before .before .before .before .before .before .before .before in
+    let counted = c .before .before .before .before .before .before .before .before .before .before .before .before .before in
+    let freed = c .before .before .before .before .before .before in
+    let pre = start .pre in
+    let one = settled-next (start .args .places) (start .args .self) (start .args .heap .now) (start .args .held) (start .args .l) _ (pre .0) (counted .used-places .ensures) in
+    let next = one (c .before .before .before .before .before .before .before .before .before .before .before .before .if1 .left) (pre .2) (freed .release-chunk .result) (c .count-out .result) _ (c .before .put-last2 .result) (c .before .before .before .left-out .result) _ _ _ (pre .1) in
+    let gone = next (c .before .before .before .before .before .before .before .before .before .link-to-hdr .ensures) (c .before .before .before .before .before .before .before .before .get-hdr-chunk-size .ensures) (freed .release-chunk .ensures) in
+    gone (c .before .before .before .left-out .ensures) (c .before .before .monus .ensures) (c .before .put-last2 .ensures) (c .count-out .ensures)
 
 pub settle-spec : {M : Type 1} → statement M
 settle-spec =
     tie.close
     (tie.spec
+    used-places-requires
+    put-last-requires
     with-cached-requires
     returns
+    array-copy-out-old
     link-to-hdr-requires
     get-hdr-chunk-size-requires
     release-chunk-requires
+    left-out-requires
+    monus-requires
+    put-last-requires-2
     count-out-requires
     same-length
     returns-2)
