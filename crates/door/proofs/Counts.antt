@@ -1,5 +1,6 @@
 -- HOW MANY LINES A MAP HAS. Chunks of 16 bytes at least tile the words before the guard, so a sound heap of n words has at most (n - 1) / 4 of them.
 --     answer-counted    the number that comes with an answer of the map's writer fits 32 bits
+--     reply-by          the outcome of a reply is that of one that is equal to it
 --     room-suffices     room of 19 bytes for each four words before the guard is never too short
 -- Assumes nothing.
 use mathlib.Core.Path.{_≡_, refl, sym, ap, _∙_}
@@ -15,7 +16,8 @@ use Rattle.rules.specs.Making.{State}
 use Rattle.rules.specs.Sound.{Sound}
 use Rattle.rules.proofs.Named.{chunks-few}
 use Rattle.rules.proofs.Decide.{sound-true, true-sound}
-use Rattle.heap.specs.Seen.{base}
+use Rattle.heap.specs.declared.record.Record.{Record}
+use Rattle.heap.specs.Seen.{base, seen}
 use Rattle.heap.specs.Answer.{soundAt}
 use Rattle.heap.proofs.Answers.{ours}
 use Rattle.map.specs.declared.rows.Answer.{Answer}
@@ -23,7 +25,13 @@ use Rattle.map.specs.Answer.{told}
 use Rattle.map.specs.Calls.{rowsOf, written}
 use Rattle.map.proofs.Lines.{length-map}
 use Rattle.map.proofs.Maps.{map-of-sound-heap, what-is-written}
-use Rattle.door.specs.Reply.{Counted}
+use Rattle.door.specs.declared.reply.Reply.{Reply}
+use Rattle.door.specs.Reply.{Counted, replied}
+
+-- the outcome of a reply is that of one that is equal to it
+pub reply-by : (places : ℕ) (rec : Record) (ws before : List ℕ) (r q : Reply) (room : List ℕ) → r ≡ q
+    → replied q room ≡ written places (seen rec ws) before → replied r room ≡ written places (seen rec ws) before
+reply-by places rec ws before r q room e f = ap (λ (x : Reply). replied x room) e ∙ f
 
 -- a sound heap has a row for each four words at most
 rows-few : (places : ℕ) (s : State) → Sound base 65529 places s → 4 * length (rowsOf s) ≤ length (s .words) - 1
