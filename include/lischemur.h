@@ -117,7 +117,7 @@ extern "C" {
 
 /*
  * How large a heap has to be. A payload takes a chunk of LISCHEMUR_CHUNK(size) bytes: 8 more if those would be left over, up
- * to 512 more if the cached chunk serves it. A search for less than 512 bytes looks only at chunks of at least the next power
+ * to 512 more if a cached chunk serves it. A search for less than 512 bytes looks only at chunks of at least the next power
  * of two, so the free chunk that serves a size has LISCHEMUR_SERVES(size) bytes or more, and 3, no fit, is replied though a
  * shorter one would hold the payload: a just-made heap of 127 words is one free chunk of 504 bytes and refuses 245 bytes,
  * which would take 256 of them, since 512 are looked for. A just-made heap of LISCHEMUR_WORDS(count, size) words, and none of
