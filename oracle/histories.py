@@ -44,9 +44,9 @@ def parts(heap, kind, size):
     return in_domain(heap, kind, size) and len(set(readings(heap, size))) == 2
 
 
-def random_history(seed, places, heap=model.Heap):
-    """A random history on a heap with that many cache places: its frames, options, and the lines that the model writes for it. With one place, as the Rust
-    has, a request at which the two part is left out."""
+def random_history(seed, places, heap=model.Heap, rust=False):
+    """A random history on a heap with that many cache places: its frames, options, and the lines that the model writes for it. If it is for the Rust, a
+    request at which Rust and rules part is left out."""
     rng = random.Random(seed)
     least, most = rng.choice(((5, 42), (33, 130), (33, 130), (131, 400), (1501, 2500)))
     words = rng.randrange(least, most, 2)
@@ -68,7 +68,7 @@ def random_history(seed, places, heap=model.Heap):
             request = (2, rng.choice(sorted(live)))
         else:
             request = (1, size_of(rng, words))
-        if places == 1 and parts(trace.heap, *request):
+        if rust and parts(trace.heap, *request):
             continue
         fits = fit(trace.heap, *request)
         answer, lines = trace.request(*request)
@@ -126,9 +126,9 @@ def check_fit(fits, request, answer):
         raise Fault("%s is answered %s, and the headers say served: %s, else %s" % (request, answer, served, wanted))
 
 
-def every_history(words, sizes, depth, places, heap=model.Heap):
+def every_history(words, sizes, depth, places, heap=model.Heap, rust=False):
     """Every history of up to so many requests on a heap of so many words, asks of these sizes and all frees: frames and the lines that the model
-    writes for them. With one place a history ends before a request at which the Rust and the rules part."""
+    writes for them. If they are for the Rust, a history ends before a request at which Rust and rules part."""
     trace = model.Trace(places, words=words, dump=True, heap=heap)
     frames, wanted = [], []
 
@@ -148,7 +148,7 @@ def every_history(words, sizes, depth, places, heap=model.Heap):
         """Play a history and every longer one that begins with it."""
         live = play(history)
         if len(history) < depth:
-            asks = [(1, size) for size in sizes if places > 1 or not parts(trace.heap, 1, size)]
+            asks = [(1, size) for size in sizes if not rust or not parts(trace.heap, 1, size)]
             for request in asks + [(2, offset) for offset in live]:
                 extend(history + [request])
 
