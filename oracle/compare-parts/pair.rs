@@ -341,7 +341,11 @@ impl Pair {
             return None;
         }
         let s = (size + 4).max(16).div_ceil(8) * 8;
-        let threshold = if s < 512 { (s + 1).next_power_of_two() } else { s };
+        let threshold = if s < 512 {
+            (s + 1).next_power_of_two()
+        } else {
+            s
+        };
         let cached = self.oracle.cached();
         let length = cached.map_or(0, |offset| self.oracle.header(offset).0);
         let from_cache = s <= length && length - s <= 512;
@@ -384,10 +388,16 @@ impl Pair {
             return Some(format!("the Rust refuses what a run of chunks that touch would serve: {wanted:?} wanted, {given} given"));
         }
         if let Some(payload) = self.oracle.hand_out(size) {
-            return Some(format!("the Rust serves, at {payload}, what its headers cannot"));
+            return Some(format!(
+                "the Rust serves, at {payload}, what its headers cannot"
+            ));
         }
         if state.record != rules.record() {
-            return Some(format!("records differ: {:?} wanted, {:?} given", rules.record(), state.record));
+            return Some(format!(
+                "records differ: {:?} wanted, {:?} given",
+                rules.record(),
+                state.record
+            ));
         }
         if !audit::sound(&state.record, &state.words, port::ONE.places) {
             return Some(format!("{given} leaves no sound heap"));
