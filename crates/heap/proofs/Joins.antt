@@ -27,7 +27,8 @@ use Rattle.heap.specs.Released.{freeListed}
 use Rattle.steps.specs.Chunk.{freed, leftFreeIn, rightFreeIn, clearedIn, emptiedIn, caseOf, Releasable}
 use Rattle.steps.specs.declared.merge.Merged.{Merged}
 use Rattle.steps.specs.Merged.{mergedIn, plainBy}
-use Rattle.steps.specs.Found.{walkIn}
+use Rattle.steps.specs.declared.search.Found.{Found}
+use Rattle.steps.specs.Found.{told, walkIn}
 use Rattle.steps.proofs.Neighbours.{merged-plain}
 
 -- storing a sentinel's link, as numbers
@@ -218,6 +219,11 @@ pub first-fit-is : (r : Record) (ws : List ℕ) (z : ℕ)
     → walkedFit base (seen r ws) z ≡ searchAll (walkIn (numbers (r .next)) ws z (length ws / 4)) (6 - startOf z) (startOf z) 0
 unfolding walkedFit walkIn
 first-fit-is r ws z = refl
+
+-- and by the case of what it says
+pub met : (r : Record) (ws : List ℕ) (z : ℕ) (q p : Found) → told q ≡ searchAll (walkIn (numbers (r .next)) ws z (length ws / 4)) (6 - startOf z) (startOf z) 0
+    → q ≡ p → told p ≡ walkedFit base (seen r ws) z
+met r ws z q p e h = sym (ap (λ (f : Found). told f) h) ∙ e ∙ sym (first-fit-is r ws z)
 
 -- EMPTYING, on record and words
 cleared-seen : (r : Record) (ws : List ℕ) (i k : ℕ) → seen r (clearedIn ws i k) ≡ cleared base (seen r ws) i k

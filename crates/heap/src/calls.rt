@@ -7,13 +7,14 @@ ghost use mathlib.Core.List.{[], _∷_, _++_};
 ghost use Prim.Native.Nat.{_-_, _*_, _≤_, _<_, _%_};
 ghost use lib.ListN.{length};
 ghost use Rattle.rules.specs.Rules.{Outcome, fromList, firstFit, serve, settled, live};
+ghost use Rattle.rules.specs.Search as rule;
 ghost use Rattle.rules.specs.Steps.{oneChunk};
 ghost use Rattle.heap.specs.Seen.{seen, base};
 ghost use Rattle.words.specs.Numbers.{numbers};
 ghost use Rattle.cache.specs.Places.{cachedOf};
 ghost use Rattle.heap.specs.Kind.{placesOf};
 ghost use Rattle.heap.specs.Promises.{Makes, HandsOut, TakesBack};
-ghost use Rattle.heap.specs.Answer.{outcome, soundAt, Served};
+ghost use Rattle.heap.specs.Answer.{outcome, soundAt, Served, Fitting};
 use super::kind::Kind;
 use super::record::Record;
 use audit::Figures;
@@ -215,7 +216,7 @@ impl Record {
         self.serve_listed(heap, z)
     }
 
-    // Serves a rounded size on a sound heap from the lists; what is cleared is the chunk as finally cut.
+    // Serves a rounded size on a sound heap from the lists.
     fn serve_listed(self, heap: &mut [u32], z: u32) -> Out
         requires { ⌜ Served (seen self (now heap)) z ⌝ }
         ensures { λ r. ⌜ outcome (r .answer) (seen (r .rec) (now (heap .exit))) ≡ fromList base (seen self (now (heap .entry))) z (firstFit base (seen self (now (heap .entry))) z) ⌝ }
@@ -231,19 +232,25 @@ impl Record {
                 answer: Answer::NoFit(c as u32),
                 rec: self,
             },
-            Found::At(l, c) => {
-                let hdr = words::link_to_hdr(l);
-                let n = words::get_hdr_chunk_size(heap, hdr);
-                let m = steps::portion_of(n, z);
-                let a = self.take_chunk(heap, l, n, z);
-                steps::clear_payload(heap, hdr, m);
-                let end = words::hdr_to_offset(words::hdr_to_right_hdr(hdr, m));
-                let rec = a.count_in(m, end.0);
-                Out {
-                    answer: Answer::Done(words::hdr_to_payload(hdr), c as u32),
-                    rec,
-                }
-            }
+            Found::At(l, c) => self.take_found(heap, l, c as u32, z),
+        }
+    }
+
+    // Takes the chunk that a search found, after c comparisons, for a rounded size; what is cleared is the chunk as finally cut.
+    fn take_found(self, heap: &mut [u32], l: Link, c: u32, z: u32) -> Out
+        requires { ⌜ Fitting (seen self (now heap)) z (l .0) ⌝ }
+        ensures { λ r. ⌜ outcome (r .answer) (seen (r .rec) (now (heap .exit))) ≡ fromList base (seen self (now (heap .entry))) z (rule.at (l .0) c) ⌝ }
+    {
+        let hdr = words::link_to_hdr(l);
+        let n = words::get_hdr_chunk_size(heap, hdr);
+        let m = steps::portion_of(n, z);
+        let a = self.take_chunk(heap, l, n, z);
+        steps::clear_payload(heap, hdr, m);
+        let end = words::hdr_to_offset(words::hdr_to_right_hdr(hdr, m));
+        let rec = a.count_in(m, end.0);
+        Out {
+            answer: Answer::Done(words::hdr_to_payload(hdr), c),
+            rec,
         }
     }
 }
