@@ -45,7 +45,8 @@ use Rattle.heap.specs.declared.calls.Answer.{Answer}
 use Rattle.heap.specs.declared.calls.Answer.the-variants.{Done, ZeroSize, TooLarge, NoFit, NotLive, Damaged, BadLength}
 use Rattle.heap.specs.Seen.{seen, base, figuresOf, withCached, countedIn, countedOut, emptyRecord, freshRecord, FourPlaces}
 use Rattle.heap.specs.Kind.{placesOf}
-use Rattle.steps.specs.Chunk.{freed, leftFreeIn, rightFreeIn, emptiedIn, Releasable}
+use Rattle.steps.specs.Chunk.{freedIn, freed, leftFreeIn, rightFreeIn, emptiedIn, Releasable}
+use Rattle.steps.proofs.Neighbours.{freed-plain}
 use Rattle.heap.proofs.Joins.{emptied-seen}
 use Rattle.heap.specs.Answer.{outcome, soundAt, Served, Fitting}
 use Rattle.cache.specs.Places.{cachedOf, usedPlaces, leftOut, choiceOf}
@@ -59,12 +60,13 @@ use Rattle.rules.proofs.Bounds.{FoundFits, walked-fitᵇ, found-fitsᵇ, never-
 
 -- ---- MAKING
 
-pub one-chunk-by : (r q : Record) (ws ws1 ws2 ws3 : List ℕ) (n g b k : ℕ) → 1 ≤ n → g ≡ n - 1 → b ≡ 4 * g → ws1 ≡ freed ws 0 b → ws2 ≡ set ws1 g 2 → k ≡ classOf b
-    → seen q ws3 ≡ link base (seen r ws2) k 6 → seen q ws3 ≡ oneChunk base (seen r ws) (4 * (n - 1))
+pub one-chunk-by : (r q : Record) (ws ws1 ws2 ws3 : List ℕ) (n g b k : ℕ) → 1 ≤ n → n ≤ 65529 → g ≡ n - 1 → b ≡ 4 * g
+    → ws1 ≡ freedIn ws 0 b → ws2 ≡ set ws1 g 2 → k ≡ classOf b → seen q ws3 ≡ link base (seen r ws2) k 6 → seen q ws3 ≡ oneChunk base (seen r ws) (4 * (n - 1))
 unfolding oneChunk markFree freed
-one-chunk-by r q ws ws1 ws2 ws3 n g b k h eg eb e1 e2 ek eq =
+one-chunk-by r q ws ws1 ws2 ws3 n g b k h most eg eb e1 e2 ek eq =
+    let tags : ws1 ≡ freed ws 0 b = e1 ∙ freed-plain ws 0 b (omega arith) (omega arith) in
     let p : 4 * (n - 1) / 4 ≡ n - 1 = omega arith in
-    eq ∙ rw (e2, e1, ek, eb, eg) (rw p refl)
+    eq ∙ rw (e2, tags, ek, eb, eg) (rw p refl)
 
 pub make-short : (ws : List ℕ) → length ws < 5 → outcome BadLength (seen emptyRecord ws) ≡ make narrow 65529 ws
 unfolding make cachedOf
