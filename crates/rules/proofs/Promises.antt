@@ -14,7 +14,7 @@ use Rattle.words.specs.Sizes.{roundedOf}
 use Rattle.rules.specs.Lists.{Mem}
 use Rattle.rules.specs.Ops.{Ops}
 use Rattle.rules.specs.State.{ops}
-use Rattle.rules.specs.Rules.{Figures, Outcome, says, byteOf, nameOf, withCached, counted}
+use Rattle.rules.specs.Rules.{Figures, Outcome, says, byteOf, nameOf, withCached, counted, withoutCacheF}
 use Rattle.rules.specs.Machine.{Model, ask, give, sizeM, liveM, gaveM, settledM}
 use Rattle.rules.specs.Sound.{Shows, Sound}
 use Rattle.rules.specs.Test.{soundᵇ}
@@ -91,7 +91,8 @@ module _ {S : Type 0} {op : Ops S Figures} {most places : ℕ} (E : Edition op m
   either-way s m h size a =
       rw (hand-follows E s m h size .number)
       (handM-cases m size (λ o. (o .number ≡ 0) ⊎ (o .number ≡ 3)) (λ z. absurd (let q = a .0 in omega arith)) (λ z. absurd (let q = a .1 in omega arith))
-      (λ p q. serveM-cases m (roundedOf size) (λ o. (o .number ≡ 0) ⊎ (o .number ≡ 3)) (λ x ks r. inl refl) (λ r x c e. inl refl) (λ r c e. inr refl)))
+      (λ p q. serveM-cases m (roundedOf size) (λ o. (o .number ≡ 0) ⊎ (o .number ≡ 3)) (λ x ks r. inl refl) (λ r x c e. inl refl)
+      (λ r c e x d g. inl refl) (λ r c e d g. inr refl)))
 
   -- 0, exactly
   pub served-exactly : ServedExactly op most places
@@ -177,7 +178,7 @@ module _ {S : Type 0} {op : Ops S Figures} {most places : ℕ} (E : Edition op m
           high = ap (λ (f : Figures). f .high) e;
           flag = ap (λ (f : Figures). f .flag) e;
         },
-        λ c. subst (λ (g : Figures). CountedUp (op .rest s) g l (v - 4 + l)) (sym (w .1 c)) (flag-up (op .rest s) l (v - 4 + l)),
+        λ c. up (w .1 c),
       )
     where
       v : ℕ
@@ -185,6 +186,18 @@ module _ {S : Type 0} {op : Ops S Figures} {most places : ℕ} (E : Edition op m
 
       l : ℕ
       l = liveAt op most places (hand op most places s size .after) v
+
+      t : Figures
+      t = op .rest (hand op most places s size .after)
+
+      -- from the figures as they were, or with the cache emptied
+      from : (f : Figures) → t ≡ counted f l (v - 4 + l) → CountedUp f t l (v - 4 + l)
+      from f e = subst (λ (g : Figures). CountedUp f g l (v - 4 + l)) (sym e) (flag-up f l (v - 4 + l))
+
+      up : (t ≡ counted (op .rest s) l (v - 4 + l)) ⊎ (t ≡ counted (withoutCacheF (op .rest s)) l (v - 4 + l))
+          → CountedUp (op .rest s) t l (v - 4 + l) ⊎ CountedUp (withoutCacheF (op .rest s)) t l (v - 4 + l)
+      up (inl e) = inl (from (op .rest s) e)
+      up (inr e) = inr (from (withoutCacheF (op .rest s)) e)
 
   -- the figures after taking back
   pub taken-figured : TakenFigures op most places
