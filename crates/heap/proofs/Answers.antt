@@ -31,9 +31,8 @@ use Rattle.rules.specs.Lists.{Mem}
 use Rattle.rules.specs.Steps.{portion, lengthAt, unlink, link, setLeft, clearLeft, markFree, markUsed, oneChunk, returnExcess, takeChunk, emptied, leftFree, rightFree, merge, merged, releaseChunk}
 use Rattle.rules.specs.Search.{Found, nowhere, lost}
 use Rattle.rules.specs.Search as rule
-use Rattle.rules.specs.Rules.{Figures, Outcome, says, byteOf, nameOf, one, choose, listed, counted, released, firstFit, fromList, fromCache, serve, handOut, live, settled, takeBack}
+use Rattle.rules.specs.Rules.{Figures, Outcome, says, byteOf, nameOf, one, choose, listed, counted, released, letGo, withoutCache, firstFit, took, fromMerged, fromList, fromCache, serve, handOut, live, settled, takeBack}
 use Rattle.rules.specs.Rules as rules
-use Rattle.rules.specs.LetGo.{letGo}
 use Rattle.rules.specs.Making.{State, make, fresh}
 use Rattle.rules.specs.Demands.{hand, back}
 use Rattle.rules.specs.Place.{usedAt, tile, usedWalk}
@@ -48,7 +47,7 @@ use Rattle.heap.specs.Kind.{placesOf}
 use Rattle.steps.specs.Chunk.{freedIn, freed, leftFreeIn, rightFreeIn, emptiedIn, Releasable}
 use Rattle.steps.proofs.Neighbours.{freed-plain}
 use Rattle.heap.proofs.Joins.{emptied-seen}
-use Rattle.heap.specs.Answer.{outcome, soundAt, Served, Fitting}
+use Rattle.heap.specs.Answer.{outcome, soundAt, Served, Fitting, Missed}
 use Rattle.cache.specs.Places.{cachedOf, usedPlaces, leftOut, choiceOf}
 use Rattle.cache.proofs.Laws.{Packed, packed, length-cached, set-last, turned, oldest-cached, choose-hit, choose-miss, listed-cached}
 use Rattle.rules.proofs.Store.{Edition}
@@ -234,18 +233,26 @@ module _ (r : Record) (ws : List ℕ) (z : ℕ) (h : Served (seen r ws) z) where
       let f = figures-fitᵇ (ours 4) (seen r ws) (h .sound) .accepted in
       omega arith
 
-  pub listed-nowhere : (c d : ℕ) → d ≡ c → nowhere c ≡ walkedFit base (seen r ws) z
-      → outcome (NoFit d) (seen r ws) ≡ fromList base (seen r ws) z (firstFit base (seen r ws) z)
+  -- where it finds nothing, the rules go on with the cache emptied
+  pub missed : (c d : ℕ) → d ≡ c → nowhere c ≡ walkedFit base (seen r ws) z → Missed (seen r ws) z d
+  missed c d ed e = record { served = h; none = sym (walks (nowhere c) e) ∙ ap nowhere (sym ed) }
+
+  pub listed-nowhere : (o : Outcome State) (c d : ℕ) → d ≡ c → nowhere c ≡ walkedFit base (seen r ws) z
+      → o ≡ fromMerged base (seen r ws) z d (firstFit base (withoutCache base (seen r ws)) z)
+      → o ≡ fromList base (seen r ws) z (firstFit base (seen r ws) z)
   unfolding fromList
-  listed-nowhere c d ed e = subst (λ (f : Found). outcome (NoFit d) (seen r ws) ≡ fromList base (seen r ws) z f) (walks (nowhere c) e) (rw ed refl)
+  listed-nowhere o c d ed e eo =
+      eo ∙ ap (λ (k : ℕ). fromMerged base (seen r ws) z k (firstFit base (withoutCache base (seen r ws)) z)) ed
+      ∙ ap (fromList base (seen r ws) z) (walks (nowhere c) e)
 
   -- the chunk that it finds may be taken, and taking it is what the rules do
   pub fitting : (x c : ℕ) → rule.at x c ≡ walkedFit base (seen r ws) z → Fitting (seen r ws) z x
   fitting x c e = record { served = h; met = c; found = sym (walks (rule.at x c) e) }
 
   pub listed-found : (o : Outcome State) (x c d : ℕ) → d ≡ c → rule.at x c ≡ walkedFit base (seen r ws) z
-      → o ≡ fromList base (seen r ws) z (rule.at x d) → o ≡ fromList base (seen r ws) z (firstFit base (seen r ws) z)
-  listed-found o x c d ed e eo = eo ∙ ap (λ (k : ℕ). fromList base (seen r ws) z (rule.at x k)) ed ∙ ap (fromList base (seen r ws) z) (walks (rule.at x c) e)
+      → o ≡ took base (seen r ws) z x d → o ≡ fromList base (seen r ws) z (firstFit base (seen r ws) z)
+  unfolding fromList
+  listed-found o x c d ed e eo = eo ∙ ap (λ (k : ℕ). took base (seen r ws) z x k) ed ∙ ap (fromList base (seen r ws) z) (walks (rule.at x c) e)
 
 -- TAKEN FROM A LIST: the chunk that link x names, for z bytes
 module _ (r : Record) (ws : List ℕ) (z x : ℕ) (h : Fitting (seen r ws) z x) where
@@ -295,8 +302,7 @@ module _ (r : Record) (ws : List ℕ) (z x : ℕ) (h : Fitting (seen r ws) z x) 
   pub found-taken : (a q : Record) (ws1 ws2 : List ℕ) (i n m j e c : ℕ) (p : ByteOffset)
       → i ≡ x - 6 → n ≡ lengthOf (at ws i) → m ≡ portion n z → seen a ws1 ≡ takeChunk base (seen r ws) (x - 6) n z → ws2 ≡ emptiedIn ws1 i m
       → j ≡ rightOf i m % 2 ^ 64 → e ≡ heldName offsets j → q ≡ countedIn a m e → p .0 ≡ heldName payloads i
-      → outcome (Done p c) (seen q ws2) ≡ fromList base (seen r ws) z (rule.at x c)
-  unfolding fromList
+      → outcome (Done p c) (seen q ws2) ≡ took base (seen r ws) z x c
   found-taken a q ws1 ws2 i n m j e c p ei en em ea ec ej ee eq ep =
       let g = found-safe in
       let f = figures-safe .accepted in

@@ -13,9 +13,8 @@ use Rattle.words.proofs.Laws.Numbers.{length-numbers}
 use Rattle.words.specs.Tags.{at, lengthOf}
 use Rattle.cache.specs.Places.{cachedOf, usedPlaces, leftOut}
 use Rattle.cache.proofs.Laws.{length-cached, used-least, left-out}
-use Rattle.rules.specs.Rules.{Figures}
+use Rattle.rules.specs.Rules.{Figures, letGo, withoutCache}
 use Rattle.rules.specs.Steps.{releaseChunk}
-use Rattle.rules.specs.LetGo.{letGo, withoutCache}
 use Rattle.rules.specs.Making.{State}
 use Rattle.rules.proofs.Bounds.{figures-fitᵇ}
 use Rattle.rules.proofs.LetGo.{let-go-soundᵇ, let-go-figuresᵇ, without-cache-stepᵇ, without-cache-done}

@@ -7,7 +7,7 @@ use Rattle.words.specs.Choice.{pick}
 use Rattle.words.specs.Sizes.{classOf}
 use Rattle.words.specs.Tags.{rightOf}
 use Rattle.rules.specs.Steps.{unlink, link, clearLeft, markFree}
-use Rattle.rules.specs.LetGo.{letGo}
+use Rattle.rules.specs.Rules.{letGo}
 use Rattle.rules.specs.Making.{State}
 use Rattle.heap.specs.Seen.{base}
 

@@ -9,7 +9,7 @@ ghost use lib.ListN.{length};
 ghost use Rattle.words.specs.Numbers.{numbers};
 ghost use Rattle.cache.specs.Places.{usedPlaces};
 ghost use Rattle.rules.specs.Steps.{releaseChunk};
-ghost use Rattle.rules.specs.LetGo.{withoutCache};
+ghost use Rattle.rules.specs.Rules.{withoutCache};
 ghost use Rattle.steps.specs.Chunk.{Releasable};
 ghost use Rattle.steps.specs.Undone.{Room};
 ghost use Rattle.heap.specs.Seen.{seen, base};

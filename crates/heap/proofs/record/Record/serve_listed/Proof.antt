@@ -3,7 +3,7 @@ use mathlib.Core.Path.{refl}
 use native.Mathlib.Omega.{arith}
 use borrow.Author.Needs.{needs}
 use Rattle.heap.proofs.Joins.{met}
-use Rattle.heap.proofs.Answers.{nowhere-safe, found-few, fitting, listed-lost, listed-nowhere, listed-found}
+use Rattle.heap.proofs.Answers.{nowhere-safe, found-few, missed, fitting, listed-lost, listed-nowhere, listed-found}
 use Rattle.heap.proofs.record.Record.serve_listed.Statement.{statement}
 use Rattle.heap.proofs.record.Record.serve_listed.Tie as tie
 
@@ -16,15 +16,30 @@ enum-told c = search needs
 enum-known-found : tie.Need-enum-known-found
 enum-known-found c = search needs
 
-cast-t13 : tie.Need-cast-t13
-cast-t13 c =
-    let at-search-first-fit = c .before .before .before in
+cast-serve-merged : tie.Need-cast-serve-merged
+cast-serve-merged c =
+    let at-found = c .before .before in
+    let at-search-first-fit = at-found .before .before in
     let entry = at-search-first-fit .before .before .before .before in
-    let e =
-    met (entry .args .self) (entry .args .heap .now) (entry .args .z) _ _ (at-search-first-fit .search-first-fit .ensures)
-    (c .before .found .given .1) in
-    let few = nowhere-safe (entry .args .self) (entry .args .heap .now) (entry .args .z) (entry .pre) _ e in
+    let self = entry .args .self in
+    let ws = entry .args .heap .now in
+    let z = entry .args .z in
+    let h = entry .pre in
+    let found = met self ws z _ _ (at-search-first-fit .search-first-fit .ensures) (at-found .found .given .1) in
+    let few = nowhere-safe self ws z h _ found in
     record { fits = omega arith }
+
+serve-merged-requires : tie.Need-serve-merged-requires
+serve-merged-requires c κs =
+    let at-found = c .before .before in
+    let at-search-first-fit = at-found .before .before in
+    let entry = at-search-first-fit .before .before .before .before in
+    let self = entry .args .self in
+    let ws = entry .args .heap .now in
+    let z = entry .args .z in
+    let h = entry .pre in
+    let found = met self ws z _ _ (at-search-first-fit .search-first-fit .ensures) (at-found .found .given .1) in
+    missed self ws z h _ _ refl found
 
 enum-known-found-2 : tie.Need-enum-known-found-2
 enum-known-found-2 c = search needs
@@ -34,10 +49,12 @@ cast-take-found c =
     let at-found2 = c .before .before in
     let at-search-first-fit = at-found2 .before .before in
     let entry = at-search-first-fit .before .before .before .before in
-    let e =
-    met (entry .args .self) (entry .args .heap .now) (entry .args .z) _ _ (at-search-first-fit .search-first-fit .ensures)
-    (at-found2 .found2 .given .1) in
-    let few = found-few (entry .args .self) (entry .args .heap .now) (entry .args .z) (entry .pre) _ _ e in
+    let self = entry .args .self in
+    let ws = entry .args .heap .now in
+    let z = entry .args .z in
+    let h = entry .pre in
+    let found = met self ws z _ _ (at-search-first-fit .search-first-fit .ensures) (at-found2 .found2 .given .1) in
+    let few = found-few self ws z h _ _ found in
     record { fits = omega arith }
 
 take-found-requires : tie.Need-take-found-requires
@@ -45,8 +62,12 @@ take-found-requires c κs =
     let at-found2 = c .before .before in
     let at-search-first-fit = at-found2 .before .before in
     let entry = at-search-first-fit .before .before .before .before in
-    fitting (entry .args .self) (entry .args .heap .now) (entry .args .z) (entry .pre) _ _
-    (met (entry .args .self) (entry .args .heap .now) (entry .args .z) _ _ (at-search-first-fit .search-first-fit .ensures) (at-found2 .found2 .given .1))
+    let self = entry .args .self in
+    let ws = entry .args .heap .now in
+    let z = entry .args .z in
+    let h = entry .pre in
+    let found = met self ws z _ _ (at-search-first-fit .search-first-fit .ensures) (at-found2 .found2 .given .1) in
+    fitting self ws z h _ _ found
 
 same-length : tie.Need-same-length
 same-length c = search needs
@@ -55,18 +76,28 @@ returns : tie.Need-returns
 returns c =
     let at-search-first-fit = c .before .before in
     let entry = at-search-first-fit .before .before .before .before in
-    listed-lost (entry .args .self) (entry .args .heap .now) (entry .args .z) (entry .pre)
-    (met (entry .args .self) (entry .args .heap .now) (entry .args .z) _ _ (at-search-first-fit .search-first-fit .ensures) (c .enum-told .given .1))
+    let self = entry .args .self in
+    let ws = entry .args .heap .now in
+    let z = entry .args .z in
+    let h = entry .pre in
+    let found = met self ws z _ _ (at-search-first-fit .search-first-fit .ensures) (c .enum-told .given .1) in
+    listed-lost self ws z h found
 
 same-length-2 : tie.Need-same-length-2
 same-length-2 c = search needs
 
 returns-2 : tie.Need-returns-2
 returns-2 c =
-    let at-search-first-fit = c .before .before .before in
+    let at-serve-merged = c .before .before in
+    let at-found = at-serve-merged .before .before .before in
+    let at-search-first-fit = at-found .before .before in
     let entry = at-search-first-fit .before .before .before .before in
-    listed-nowhere (entry .args .self) (entry .args .heap .now) (entry .args .z) (entry .pre) _ _ refl
-    (met (entry .args .self) (entry .args .heap .now) (entry .args .z) _ _ (at-search-first-fit .search-first-fit .ensures) (c .before .found .given .1))
+    let self = entry .args .self in
+    let ws = entry .args .heap .now in
+    let z = entry .args .z in
+    let h = entry .pre in
+    let found = met self ws z _ _ (at-search-first-fit .search-first-fit .ensures) (at-found .found .given .1) in
+    listed-nowhere self ws z h _ _ _ refl found (at-serve-merged .serve-merged .ensures)
 
 same-length-3 : tie.Need-same-length-3
 same-length-3 c = search needs
@@ -77,9 +108,12 @@ returns-3 c =
     let at-found2 = at-take-found .before .before .before in
     let at-search-first-fit = at-found2 .before .before in
     let entry = at-search-first-fit .before .before .before .before in
-    listed-found (entry .args .self) (entry .args .heap .now) (entry .args .z) (entry .pre) _ _ _ _ refl
-    (met (entry .args .self) (entry .args .heap .now) (entry .args .z) _ _ (at-search-first-fit .search-first-fit .ensures) (at-found2 .found2 .given .1))
-    (at-take-found .take-found .ensures)
+    let self = entry .args .self in
+    let ws = entry .args .heap .now in
+    let z = entry .args .z in
+    let h = entry .pre in
+    let found = met self ws z _ _ (at-search-first-fit .search-first-fit .ensures) (at-found2 .found2 .given .1) in
+    listed-found self ws z h _ _ _ _ refl found (at-take-found .take-found .ensures)
 
 pub serve-listed-spec : {M : Type 1} → statement M
 serve-listed-spec =
@@ -88,7 +122,8 @@ serve-listed-spec =
     search-first-fit-requires
     enum-told
     enum-known-found
-    cast-t13
+    cast-serve-merged
+    serve-merged-requires
     enum-known-found-2
     cast-take-found
     take-found-requires
