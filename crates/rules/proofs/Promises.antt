@@ -77,8 +77,7 @@ module _ {S : Type 0} {op : Ops S Figures} {most places : ℕ} (E : Edition op m
           (λ z. absurd (let q = a .1 in omega arith))
           (λ p q f k. absurd (k refl)) (λ p q f k. f) n)
 
-  -- 3, exactly
-  -- no fit on the model, told of the state, and the other way
+  -- no fit on the model, told of the state
   unfit-told : (s : S) (m : Model) (h : Shows op most places s m) (z : ℕ) → NoFit m z → Unfit op most places s z
   unfit-told s m h z w =
       record {
@@ -91,6 +90,7 @@ module _ {S : Type 0} {op : Ops S Figures} {most places : ℕ} (E : Edition op m
         lists = w .lists;
       }
 
+  -- and the other way
   unfit-shown : (s : S) (m : Model) (h : Shows op most places s m) (z : ℕ) → Unfit op most places s z → NoFit m z
   unfit-shown s m h z w =
       let c = layout-unique E (withoutCache op s) (withoutCacheM m) (w .merged) (without-cache-shows E s m h) (w .shows) in
@@ -100,6 +100,7 @@ module _ {S : Type 0} {op : Ops S Figures} {most places : ℕ} (E : Edition op m
         lists = λ x n i. w .lists x n (subst (λ cs. In (slot x n) (frees 0 cs)) c i);
       }
 
+  -- 3, exactly
   pub three-exactly : ThreeExactly op most places
   three-exactly s size = (
     λ e. let a = allowed s size (λ z. (let u : _≡_ {A = ℕ} 3 1 = sym e ∙ z in omega arith)) (λ z. (let u : _≡_ {A = ℕ} 3 2 = sym e ∙ z in omega arith)) in
