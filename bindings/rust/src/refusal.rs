@@ -76,7 +76,9 @@ impl fmt::Display for Refusal {
                 out.write_str("not an accepted number of words (odd, 5 to 65,529)")
             }
             Refusal::NoRoom => out.write_str("the map is longer than the room"),
-            Refusal::NeverFits => out.write_str("no heap of this length can ever serve so many bytes"),
+            Refusal::NeverFits => {
+                out.write_str("no heap of this length can ever serve so many bytes")
+            }
             Refusal::Unknown(number) => write!(out, "answer number {number} is unknown"),
         }
     }
