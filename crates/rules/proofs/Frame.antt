@@ -23,8 +23,8 @@ use Rattle.rules.specs.Exact.{slot, In, frees}
 use Rattle.rules.specs.Orders.{freeHead, freeLast}
 use Rattle.rules.specs.Place.{usedAt}
 use Rattle.rules.specs.Search.{Found, at, nowhere, lost}
-use Rattle.rules.specs.Rules.{Figures, Outcome, says, byteOf, nameOf, Chosen, none, one, choose, withCached, released, letGo, emptyCache, withoutCache, fromMerged}
-use Rattle.rules.specs.Rules.{fromList, fromCache, serve, handOut, settled, takeBack}
+use Rattle.rules.specs.Rules.{Figures, Outcome, says, byteOf, nameOf, Chosen, none, one, never, choose, withCached, released, letGo, emptyCache, withoutCache}
+use Rattle.rules.specs.Rules.{fromMerged, fromList, fromCache, serve, handOut, settled, takeBack}
 use Rattle.rules.specs.Machine.{Model, ask, give, sizeM, searched, searchM, gaveM, emptyCacheM, withoutCacheM, liveM}
 use Rattle.rules.specs.Sound.{Shows, Sound}
 use Rattle.rules.specs.Test.{soundᵇ}
@@ -216,7 +216,7 @@ module _ {S : Type 0} {op : Ops S Figures} {most places : ℕ} (E : Edition op m
 
     hand-only : (size : ℕ) → Wrote (roundedOf size) (hand op most places s size)
     unfolding handOut serve fromCache fromList fromMerged
-    hand-only size = rw (true-sound E s (m, h)) (go (eqb size 0) (ltb 4294967284 size))
+    hand-only size = rw (true-sound E s (m, h)) (go (eqb size 0) (ltb 4294967284 size) (never (op .count s) (roundedOf size)))
       where
         z : ℕ
         z = roundedOf size
@@ -276,10 +276,12 @@ module _ {S : Type 0} {op : Ops S Figures} {most places : ℕ} (E : Edition op m
                 (legal-back (u .pre) (busy (usedAt (m .cs) (byteOf x)) ∷ u .post) (subst Legal (u .is) (h .legal))) .0
         served none p = rw (search-same E s m h z) (list p (searchM m z) refl)
 
-        go : (a b : Bool) → Wrote z (pick a (says 1 0 0 s) (pick b (says 2 0 0 s) (fromCache op s z (choose (lengthAt op s) z (op .rest s .cached)))))
-        go true b = λ o k. refl
-        go false true = λ o k. refl
-        go false false = rw (choose-cached E s m h z) (served (choose (sizeM m) z (m .figs .cached)) (choose-picked (sizeM m) z (m .figs .cached)))
+        go : (a b c : Bool)
+            → Wrote z (pick a (says 1 0 0 s) (pick b (says 2 0 0 s) (pick c (says 8 0 0 s) (fromCache op s z (choose (lengthAt op s) z (op .rest s .cached))))))
+        go true b c = λ o k. refl
+        go false true c = λ o k. refl
+        go false false true = λ o k. refl
+        go false false false = rw (choose-cached E s m h z) (served (choose (sizeM m) z (m .figs .cached)) (choose-picked (sizeM m) z (m .figs .cached)))
 
     back-only : (p k n : ℕ) (ks : List ℕ) (pre post : List Chunk) → m .figs .cached ++ nameOf (p - 4) ∷ [] ≡ k ∷ ks → m .cs ≡ pre ++ busy n ∷ post
         → byteOf k ≡ total pre

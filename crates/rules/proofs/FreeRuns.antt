@@ -4,7 +4,7 @@ use mathlib.Core.Path.{_≡_, refl, sym, ap, _∙_, subst}
 use mathlib.Core.Logic.{_⊎_, inl, inr}
 use mathlib.Core.Bool.{Bool, true, false}
 use mathlib.Core.List.{List, [], _∷_, _++_, List·Memᴰ·head, List·Memᴰ·tail}
-use Prim.Native.Nat.{ℕ, _+_, _%_, max, _≤_, _<_}
+use Prim.Native.Nat.{ℕ, _+_, _-_, _*_, _%_, max, _≤_, _<_}
 use native.Mathlib.Omega.{arith}
 use native.Mathlib.Nat.{add-assoc, add-zero, zero-add}
 use lib.Dec.{eqb}
@@ -193,18 +193,19 @@ module _ {S : Type 0} {op : Ops S Figures} {most places : ℕ} (E : Edition op m
         λ q x n i. let a = free-longest 0 (withoutCacheM m .cs) x n i in omega arith,
       )
 
-  -- NO FIT, SEEN IN THE LAYOUT: 3 exactly where no cached chunk serves and the longest run does not reach the threshold
+  -- NO FIT, SEEN IN THE LAYOUT, where it may ever fit: 3 exactly where no cached chunk serves and the longest run does not reach the threshold
   pub noFit-by-runs : (s : S) (m : Model) → Sh s m → (size : ℕ) → 0 < size → size ≤ 4294967284
       → let z = roundedOf size in
-      (hand op most places s size .number ≡ 3 → NoneServes m z × (longestRun (m .figs .cached) 0 0 (m .cs) < thresholdOf z))
+      thresholdOf z ≤ 4 * (m .figs .words - 1)
+      → (hand op most places s size .number ≡ 3 → NoneServes m z × (longestRun (m .figs .cached) 0 0 (m .cs) < thresholdOf z))
       × (NoneServes m z × (longestRun (m .figs .cached) 0 0 (m .cs) < thresholdOf z) → hand op most places s size .number ≡ 3)
-  noFit-by-runs s m h size lo hi =
+  noFit-by-runs s m h size lo hi may =
       let t = threshold-from (roundedOf size) in
       let e = longest-among (m .figs .cached) 0 0 (m .cs) ∙ longest-run s m h in
       let k = noFit-exact E s m h size lo hi in (
         λ n. let f = k .0 n in let g = longest-short 0 (thresholdOf (roundedOf size)) (withoutCacheM m .cs) (omega arith) (f .lists) in (f .cache, omega arith),
         λ f. let q = f .1 in
-            k .1 (record { cache = f .0; lists = λ x n i. (let g = free-longest 0 (withoutCacheM m .cs) x n i in omega arith) }),
+            k .1 (record { may = may; cache = f .0; lists = λ x n i. (let g = free-longest 0 (withoutCacheM m .cs) x n i in omega arith) }),
       )
 
   -- EVERY FREE CHUNK LIES INSIDE one of the merged layout
