@@ -95,7 +95,8 @@ module _ {S : Type 0} (op : Ops S Figures) (most places : ℕ) where
   NoFitExactly =
       (s : S) (m : Model) → Shows op most places s m → (size : ℕ) → Allowable (ask size) → Iff (asked s size .number ≡ 3) (NoFit m (roundedOf size))
 
-  -- and, where it may ever fit, as it is seen in the layout: no cached chunk serves, and the longest run of touching free or cached chunks does not reach the threshold
+  -- and, where it may ever fit, as it is seen in the layout: no cached chunk serves, and the longest run of touching free or cached chunks does not reach the
+  -- threshold
   abbrev pub NoFitByRuns : Type 0
   NoFitByRuns =
       (s : S) (m : Model) → Shows op most places s m → (size : ℕ) → Allowable (ask size)

@@ -60,7 +60,8 @@ module _ {S : Type 0} (op : Ops S Figures) (most places : ℕ) where
   abbrev pub Never : S → ℕ → Type 0
   Never s z = 4 * (op .count s - 1) < thresholdOf z
 
-  -- NOTHING FITS z bytes, but may at another time: the state is sound, no cached chunk serves, and no free chunk of the layout with the cache emptied reaches the threshold
+  -- NOTHING FITS z bytes, but may at another time: the state is sound, no cached chunk serves, and no free chunk of the layout with the cache emptied reaches
+  -- the threshold
   pub record Unfit (s : S) (z : ℕ) : Type 0 where
     pub sound : Sound op most places s
     pub may : Never s z → ⊥
@@ -73,7 +74,8 @@ module _ {S : Type 0} (op : Ops S Figures) (most places : ℕ) where
   abbrev pub ServedExactly : Type 0
   ServedExactly =
       (s : S) (size : ℕ)
-      → Iff (asked op most places s size .number ≡ 0) (Allowable (ask size) × Sound op most places s × (Never s (roundedOf size) → ⊥) × (Unfit s (roundedOf size) → ⊥))
+      → Iff (asked op most places s size .number ≡ 0)
+      (Allowable (ask size) × Sound op most places s × (Never s (roundedOf size) → ⊥) × (Unfit s (roundedOf size) → ⊥))
 
   -- 8 exactly for an allowable size that can never fit, on a sound state
   abbrev pub EightExactly : Type 0
