@@ -25,12 +25,11 @@ same-length c = search needs
 
 returns-3 : tie.Need-returns-3
 returns-3 c =
-    let at-2 = c .before .before .before in
-    let at-1 = at-2 .before in
-    let at-here = at-1 .before .before in
-    let start = at-here in
+    let test2 = c .before .before .before in
+    let test1 = test2 .before in
+    let start = test1 .before .before in
     let tested = hand-damaged (placesOf (start .args .kind)) (start .args .self) (start .args .heap .now) _ _ in
-    tested (at-1 .if1 .left) (at-2 .if2 .left) (c .before .audit .ensures) (not-true _ (c .if3 .taken))
+    tested (test1 .if1 .left) (test2 .if2 .left) (c .before .audit .ensures) (not-true _ (c .if3 .taken))
 
 rounded-size-requires : tie.Need-rounded-size-requires
 rounded-size-requires c κs = search needs
@@ -47,25 +46,23 @@ same-length-2 c = search needs
 returns-4 : tie.Need-returns-4
 returns-4 c =
     let at-rounded-size = c .before .before in
-    let at-3 = at-rounded-size .before in
-    let at-audit = at-3 .before in
-    let at-2 = at-audit .before .before in
-    let at-1 = at-2 .before in
-    let at-here = at-1 .before .before in
-    let start = at-here in
+    let test3 = at-rounded-size .before in
+    let at-audit = test3 .before in
+    let test2 = at-audit .before .before in
+    let test1 = test2 .before in
+    let start = test1 .before .before in
     let tested = hand-never (placesOf (start .args .kind)) (start .args .self) (start .args .heap .now) _ _ _ _ _ in
-    let passed = tested (at-1 .if1 .left) (at-2 .if2 .left) (at-audit .audit .ensures) (not-false _ (at-3 .if3 .left)) in
+    let passed = tested (test1 .if1 .left) (test2 .if2 .left) (at-audit .audit .ensures) (not-false _ (test3 .if3 .left)) in
     passed (at-rounded-size .rounded-size .ensures) refl (c .before .never .ensures) (c .if4 .taken)
 
 serve-requires : tie.Need-serve-requires
 serve-requires c κs =
     let at-rounded-size = c .before .before .before in
-    let at-3 = at-rounded-size .before in
-    let at-audit = at-3 .before in
-    let at-here = at-audit .before .before .before .before .before in
-    let start = at-here in
+    let test3 = at-rounded-size .before in
+    let at-audit = test3 .before in
+    let start = at-audit .before .before .before .before .before in
     let tested = rounded-served (start .args .kind) (start .args .self) (start .args .heap .now) _ _ _ in
-    tested (at-audit .audit .ensures) (not-false _ (at-3 .if3 .left)) (at-rounded-size .rounded-size .ensures)
+    tested (at-audit .audit .ensures) (not-false _ (test3 .if3 .left)) (at-rounded-size .rounded-size .ensures)
 
 same-length-3 : tie.Need-same-length-3
 same-length-3 c = search needs
@@ -73,18 +70,17 @@ same-length-3 c = search needs
 returns-5 : tie.Need-returns-5
 returns-5 c =
     let at-serve = c .before .before in
-    let at-4 = at-serve .before .before in
-    let at-never = at-4 .before in
+    let test4 = at-serve .before .before in
+    let at-never = test4 .before in
     let at-rounded-size = at-never .before in
-    let at-3 = at-rounded-size .before in
-    let at-audit = at-3 .before in
-    let at-2 = at-audit .before .before in
-    let at-1 = at-2 .before in
-    let at-here = at-1 .before .before in
-    let start = at-here in
+    let test3 = at-rounded-size .before in
+    let at-audit = test3 .before in
+    let test2 = at-audit .before .before in
+    let test1 = test2 .before in
+    let start = test1 .before .before in
     let tested = hand-served (placesOf (start .args .kind)) (start .args .self) (start .args .heap .now) _ _ _ _ _ _ in
-    let passed = tested (at-1 .if1 .left) (at-2 .if2 .left) (at-audit .audit .ensures) (not-false _ (at-3 .if3 .left)) in
-    passed (at-rounded-size .rounded-size .ensures) refl (at-never .never .ensures) (at-4 .if4 .left) (at-serve .serve .ensures)
+    let passed = tested (test1 .if1 .left) (test2 .if2 .left) (at-audit .audit .ensures) (not-false _ (test3 .if3 .left)) in
+    passed (at-rounded-size .rounded-size .ensures) refl (at-never .never .ensures) (test4 .if4 .left) (at-serve .serve .ensures)
 
 pub hand-out-spec : {M : Type 1} → statement M
 hand-out-spec =
