@@ -69,7 +69,9 @@ over-kept s n = go (eqb n (length (s .words))) refl (acceptedᵇ 65529 n) refl
         → (pick t (pick u (make narrow 65529 (s .words)) (says 6 0 0 s)) (says 6 0 0 s)) .after ≡ s
     go false e u f h = refl
     go true e false f h = refl
-    go true e true f h = absurd (h (narrow-making (four .places) (s .words) .0 .1 (subst (Accepted 65529) (eqb-true n (length (s .words)) e) (accepted-true 65529 n f))))
+    go true e true f h =
+        let lent : Accepted 65529 (length (s .words)) = subst (Accepted 65529) (eqb-true n (length (s .words)) e) (accepted-true 65529 n f) in
+        absurd (h (narrow-making (four .places) (s .words) .0 .1 lent))
 
 -- each of the three keeps the state it refuses
 kept : (places : ℕ) (d : Door) (s : State) → through places d s .number ≢ 0 → through places d s .after ≡ s

@@ -85,8 +85,10 @@ turned-kept : (places : ℕ) (s : State) (l : Line) → Kept s (turned places s 
 unfolding call
 turned-kept places s Bad = λ h. refl
 turned-kept places s (Good (Make n)) = making-kept s n
-turned-kept places s (Good (HandOut size)) = first-kept (s .rest .words) (λ t. hand base 65529 places t size) s (λ t. narrow-demands places .refused (ask size) t)
-turned-kept places s (Good (TakeBack p)) = first-kept (s .rest .words) (λ t. back base 65529 places t p) s (λ t. narrow-demands places .refused (give p) t)
+turned-kept places s (Good (HandOut size)) =
+    first-kept (s .rest .words) (λ t. hand base 65529 places t size) s (narrow-demands places .refused (ask size))
+turned-kept places s (Good (TakeBack p)) =
+    first-kept (s .rest .words) (λ t. back base 65529 places t p) s (narrow-demands places .refused (give p))
 
 -- a refusal changes nothing
 pub turn-refused : (places : ℕ) (r : Record) (ws vs : List ℕ) (l : Line) (t : Reply)
@@ -96,4 +98,5 @@ pub turn-refused : (places : ℕ) (r : Record) (ws vs : List ℕ) (l : Line) (t 
     → FourPlaces r
     → (t .rec ≡ r) × (vs ≡ ws)
 turn-refused places r ws vs l t e h ft fr =
-    seen-same (t .rec) r vs ws ft fr (ap (λ (o : Outcome State). o .after) e ∙ turned-kept places (seen r ws) l (λ z. h (ap (λ (o : Outcome State). o .number) e ∙ z)))
+    let kept = turned-kept places (seen r ws) l (λ z. h (ap (λ (o : Outcome State). o .number) e ∙ z)) in
+    seen-same (t .rec) r vs ws ft fr (ap (λ (o : Outcome State). o .after) e ∙ kept)
