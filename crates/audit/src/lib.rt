@@ -26,6 +26,7 @@ mod windows;
 
 use rings::rings_right;
 use tiling::count_chunks;
+use tiling::lengths_at;
 use windows::lists_right;
 use words::Link;
 
@@ -172,7 +173,8 @@ pub fn audit(
     if t.next != heap.len() {
         return false;
     }
-    let right = figures_right(figures, heap.len(), t.sum, t.held, t.top);
+    let held = lengths_at(heap, ws);
+    let right = figures_right(figures, heap.len(), t.sum, held, t.top);
     if !right {
         return false;
     }
