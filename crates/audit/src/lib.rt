@@ -8,6 +8,9 @@
 //     rings     the class lists as mirrored rings
 //     windows   the free chunks of a stretch of words, marked, against the lists
 //
+// Words and bytes are counted in u32, once the length is tested: a usize has 64 bits, two registers on a meter's processor. So the functions below ask
+// for fewer than 2^30 words.
+//
 // The contract is an equation with the rules' own test. In between stands `proofs/Sound.antt`: the same by words and counts, as the code goes.
 ghost use mathlib.Core.Path.{_≡_};
 ghost use mathlib.Core.Logic.{_↔_};
@@ -185,7 +188,7 @@ pub fn audit(
     if !right {
         return false;
     }
-    let first = t.first as usize;
+    let first = t.first;
     let frees = t.frees;
     let rings = rings_right(prev, next, heap, first, frees);
     if !rings {
