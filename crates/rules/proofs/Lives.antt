@@ -92,7 +92,7 @@ live-unused m p u = go (leb 4 p) (listed (nameOf (p - 4)) (m .figs .cached))
     go false v = refl
 
 -- a used chunk that is not cached is live
-live-used : (m : Model) (p : ℕ) → 4 ≤ p → (Mem (nameOf (p - 4)) (m .figs .cached) → ⊥) → liveM m p ≡ usedAt (m .cs) (p - 4)
+pub live-used : (m : Model) (p : ℕ) → 4 ≤ p → (Mem (nameOf (p - 4)) (m .figs .cached) → ⊥) → liveM m p ≡ usedAt (m .cs) (p - 4)
 unfolding liveM
 live-used m p p4 c = rw (le-leb 4 p p4) (go (listed (nameOf (p - 4)) (m .figs .cached)) refl)
   where
