@@ -8,6 +8,7 @@
     damaged    histories on small heaps with damage to record and words between the requests, and the audit's answer and a sum over the whole
                state after each: those of tests/c/compare.py, in lines that the board reads
     crowd      a heap with so many used chunks, then with every other one free: how a call's time grows
+    emptied    the same heap asked for more than it has, with an empty cache and with four cached chunks, and for what an emptied cache serves
     turns      every kind of call once, on heaps in three states; the model says whether each does what it is called
 """
 
@@ -46,7 +47,7 @@ WHOLE = (
 000000000000000000
 020000000000000000
 010000000000000000
-030000000000000000
+000000000400000001
 """.split(),
 )
 
@@ -201,6 +202,18 @@ def crowd(chunks, every_other):
     if every_other:
         lines += [call(TAKE_BACK, slot, 0) for slot in range(0, chunks, 2)]
     lines += [call(AUDIT, 0, 0), call(HAND_OUT, chunks, 40), call(TAKE_BACK, chunks, 0)]
+    return b"".join(lines)
+
+
+def emptied(chunks):
+    """Fill a heap with so many small chunks; a handout that is refused; then four of them cached, the last beside the rest; the last three calls audit, hand
+    out as much again, which is refused, and hand out what the rest and the chunk beside it serve."""
+    lines = [call(MAKE, 0, model.TRACE_WORDS)]
+    lines += [call(HAND_OUT, slot, 12) for slot in range(chunks)]
+    lines += [call(HAND_OUT, chunks, 65_500)]
+    lines += [call(TAKE_BACK, slot, 0) for slot in (0, 2, 4, chunks - 1)]
+    rest = 4 * model.TRACE_WORDS - 4 - 16 * chunks
+    lines += [call(AUDIT, 0, 0), call(HAND_OUT, chunks, 65_500), call(HAND_OUT, chunks, rest + 16 - 4)]
     return b"".join(lines)
 
 
