@@ -22,7 +22,7 @@ use Rattle.steps.specs.Undone.{Room, Undoes}
 use Rattle.steps.proofs.Undone.{undo-none, undo-on, undo-within}
 use Rattle.heap.specs.declared.record.Record.{Record}
 use Rattle.heap.specs.declared.undo.Noted.{Noted}
-use Rattle.heap.specs.Seen.{seen, base, countedOut, FourPlaces}
+use Rattle.heap.specs.Seen.{seen, base, cachedIn, countedOut, FourPlaces}
 use Rattle.heap.specs.Released.{oldestOf, oldestGone}
 use Rattle.heap.specs.Undoable.{Undoable}
 use Rattle.heap.specs.Answer.{soundAt}
@@ -39,7 +39,8 @@ pub let-go-by : (r q : Record) (ws us log after : List ℕ) (d : List Link) (k i
     → Undoable (releaseChunk base (seen r ws) (oldest r - 6) n) 9 ws log k us after a → numbers d ≡ leftOut 0 (numbers (r .cached))
     → q ≡ countedOut (a .rec) (r .«in_use») n d → Undoable (oldestGone (seen r ws)) 9 ws log k us after (record { rec = q; k = a .k })
 let-go-by r q ws us log after d k i n a ok used ei en u ed eq =
-    let others : cachedOf (numbers d) ≡ drop 1 (cachedOf (numbers (r .cached))) = ap cachedOf ed ∙ left-out (numbers (r .cached)) 0 (cache-packed r ws ok) used in
+    let others : cachedOf (numbers d) ≡ drop 1 (cachedIn r) =
+    ap cachedOf ed ∙ left-out (numbers (r .cached)) 0 (cache-packed r ws ok) used in
     let out = oldest-out r ws used (a .rec) q us _ d i n (r .«in_use») ei en (u .does) others eq in
     record { does = out ∙ sym (gone-is (seen r ws) _ _ (oldest-first r ws used)); undoes = u .undoes }
 
@@ -47,7 +48,7 @@ let-go-by r q ws us log after d k i n a ok used ei en u ed eq =
 pub record Emptying (r : Record) (ws log : List ℕ) (n : ℕ) (q : Record) (us after : List ℕ) (k i : ℕ) : Type 0 where
   pub few : n ≤ 4
   pub turns : i ≤ n
-  pub left : length (cachedOf (numbers (q .cached))) ≡ n - i
+  pub left : length (cachedIn q) ≡ n - i
   pub sound : soundAt 4 (seen q us) ≡ true
   pub same : withoutCache base (seen r ws) ≡ withoutCache base (seen q us)
   pub notes : Undoes (9 * i) ws log 0 us after k
@@ -92,14 +93,14 @@ module _ (r q : Record) (ws us log after : List ℕ) (n k i : ℕ) (h : Emptying
   pub emptying-turn : (vs later : List ℕ) (o : Noted) → i < n → Undoable (oldestGone (seen q us)) 9 us after k vs later o
       → length vs ≡ length us → length later ≡ length after → Emptying r ws log n (o .rec) vs later (o .k) (i + 1)
   emptying-turn vs later o t u ev el =
-      let ks = drop 1 (cachedOf (numbers (q .cached))) in
+      let ks = drop 1 (cachedIn q) in
       let first = oldest-first q us (emptying-used t) in
       let s = seen q us in
       let is : seen (o .rec) vs ≡ letGo base s (q .«in_use») (oldest q) ks = u .does ∙ gone-is s (oldest q) ks first in
       let figures = let-go-figuresᵇ (ours 4) s (h .sound) (oldest q) ks first in
-      let cached : cachedOf (numbers (o .rec .cached)) ≡ ks = ap (λ (v : State). v .rest .cached) is ∙ ap (λ (f : Figures). f .cached) figures in
-      let more : length (cachedOf (numbers (q .cached))) ≡ suc (length ks) = ap length first in
-      let fewer : length (cachedOf (numbers (o .rec .cached))) ≡ length ks = ap length cached in
+      let cached : cachedIn (o .rec) ≡ ks = ap (λ (v : State). v .rest .cached) is ∙ ap (λ (f : Figures). f .cached) figures in
+      let more : length (cachedIn q) ≡ suc (length ks) = ap length first in
+      let fewer : length (cachedIn (o .rec)) ≡ length ks = ap length cached in
       let l = h .left in
       let nine : 9 * i + 9 ≡ 9 * (i + 1) = omega arith in
       record {
@@ -120,7 +121,7 @@ module _ (r q : Record) (ws us log after : List ℕ) (n k i : ℕ) (h : Emptying
       let l = h .left in
       let few = h .few in
       let turns = h .turns in
-      let none = nothing (cachedOf (numbers (q .cached))) (omega arith) in
+      let none = nothing (cachedIn q) (omega arith) in
       record {
         does = sym (h .same ∙ without-cache-done base (seen q us) none);
         undoes = undo-within (9 * i) 36 ws us log after 0 k (omega arith) (h .notes);

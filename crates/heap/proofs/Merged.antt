@@ -10,7 +10,6 @@ use native.Mathlib.Omega.{arith}
 use lib.ListN.{length, getD}
 use Rattle.words.specs.Numbers.{numbers}
 use Rattle.words.proofs.Laws.Numbers.{numbers-at}
-use Rattle.cache.specs.Places.{cachedOf}
 use Rattle.cache.proofs.Laws.{none-cached}
 use Rattle.rules.specs.Search.{Found, nowhere, lost}
 use Rattle.rules.specs.Search as rule
@@ -24,7 +23,7 @@ use Rattle.steps.proofs.Undone.{put-back-all, undo-whole}
 use Rattle.heap.specs.declared.record.Record.{Record}
 use Rattle.heap.specs.declared.undo.Noted.{Noted}
 use Rattle.heap.specs.declared.calls.Answer.the-variants.{NoFit, Damaged}
-use Rattle.heap.specs.Seen.{seen, base}
+use Rattle.heap.specs.Seen.{seen, base, cachedIn}
 use Rattle.heap.specs.Undoable.{Undoable}
 use Rattle.heap.specs.Answer.{outcome, soundAt, Served, Missed}
 use Rattle.heap.proofs.Answers.{ours, cache-packed, oldest}
@@ -44,8 +43,9 @@ module _ (r : Record) (ws : List ℕ) (z c : ℕ) (h : Missed (seen r ws) z c) w
   pub merged-none : (v : ℕ) → oldest r ≡ 0 → v ≡ c + c → outcome (NoFit v) (seen r ws) ≡ again (firstFit base (withoutCache base (seen r ws)) z)
   unfolding fromMerged
   merged-none v e ev =
-      let none : cachedOf (numbers (r .cached)) ≡ [] = none-cached (numbers (r .cached)) (cache-packed r ws (h .served .sound)) (numbers-at (r .cached) 0 ∙ e) in
-      let same : firstFit base (withoutCache base (seen r ws)) z ≡ nowhere c = ap (λ (s : State). firstFit base s z) (without-cache-done base (seen r ws) none) ∙ h .none in
+      let none : cachedIn r ≡ [] = none-cached (numbers (r .cached)) (cache-packed r ws (h .served .sound)) (numbers-at (r .cached) 0 ∙ e) in
+      let same : firstFit base (withoutCache base (seen r ws)) z ≡ nowhere c =
+      ap (λ (s : State). firstFit base s z) (without-cache-done base (seen r ws) none) ∙ h .none in
       ap (λ (k : ℕ). says 3 0 k (seen r ws)) ev ∙ ap again (sym same)
 
   -- EMPTIED, with notes
@@ -78,7 +78,8 @@ module _ (r : Record) (ws : List ℕ) (z c : ℕ) (h : Missed (seen r ws) z c) w
         → nowhere d ≡ walkedFit base (seen (e .rec) us) z → outcome (NoFit v) (seen r vs) ≡ again (firstFit base (withoutCache base (seen r ws)) z)
     unfolding fromMerged
     merged-nowhere vs d v l b ev q =
-        ap (λ (k : ℕ). says 3 0 k (seen r vs)) ev ∙ ap (λ (ts : List ℕ). says 3 0 (c + d) (seen r ts)) (back-again vs l b) ∙ ap again (walks-again (nowhere d) q)
+        ap (λ (k : ℕ). says 3 0 k (seen r vs)) ev ∙ ap (λ (ts : List ℕ). says 3 0 (c + d) (seen r ts)) (back-again vs l b)
+        ∙ ap again (walks-again (nowhere d) q)
 
     pub merged-lost : (o : Outcome State) → lost ≡ walkedFit base (seen (e .rec) us) z → o ≡ again (firstFit base (withoutCache base (seen r ws)) z)
     merged-lost o q =

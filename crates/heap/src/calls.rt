@@ -8,9 +8,7 @@ ghost use Prim.Native.Nat.{_-_, _*_, _≤_, _<_, _%_};
 ghost use lib.ListN.{length};
 ghost use Rattle.rules.specs.Rules.{withoutCache, firstFit, took, fromMerged, fromList, serve, settled, live};
 ghost use Rattle.rules.specs.Steps.{oneChunk};
-ghost use Rattle.heap.specs.Seen.{seen, base};
-ghost use Rattle.words.specs.Numbers.{numbers};
-ghost use Rattle.cache.specs.Places.{cachedOf};
+ghost use Rattle.heap.specs.Seen.{seen, base, cachedIn};
 ghost use Rattle.heap.specs.Kind.{placesOf};
 ghost use Rattle.heap.specs.Promises.{Makes, HandsOut, TakesBack};
 ghost use Rattle.heap.specs.Answer.{outcome, soundAt, Served, Fitting, Missed};
@@ -178,7 +176,7 @@ impl Record {
     // Caches the chunk l as the newest, `held` bytes being in use then; where all places are used, the oldest one is released first.
     fn settle(self, heap: &mut [u32], held: u32, l: Link, places: usize) -> Record
         requires { ⌜ (soundAt 4 (seen self (now heap)) ≡ true) × (6 ≤ l .0) × (0 < places) × (places ≤ 4) ⌝ }
-        ensures { λ r. ⌜ seen r (now (heap .exit)) ≡ settled base places (seen self (now (heap .entry))) held (cachedOf (numbers (self .cached)) ++ l .0 ∷ []) ⌝ }
+        ensures { λ r. ⌜ seen r (now (heap .exit)) ≡ settled base places (seen self (now (heap .entry))) held (cachedIn self ++ l .0 ∷ []) ⌝ }
     {
         let c = self.cached;
         let k = cache::used_places(c);
@@ -218,7 +216,8 @@ impl Record {
     // Serves a rounded size on a sound heap from the lists; if they have nothing, once more with the cache emptied.
     fn serve_listed(self, heap: &mut [u32], z: u32) -> Out
         requires { ⌜ Served (seen self (now heap)) z ⌝ }
-        ensures { λ r. ⌜ outcome (r .answer) (seen (r .rec) (now (heap .exit))) ≡ fromList base (seen self (now (heap .entry))) z (firstFit base (seen self (now (heap .entry))) z) ⌝ }
+        ensures { λ r. ⌜ outcome (r .answer) (seen (r .rec) (now (heap .exit)))
+            ≡ fromList base (seen self (now (heap .entry))) z (firstFit base (seen self (now (heap .entry))) z) ⌝ }
     {
         let next = self.next;
         let found = steps::search_first_fit(next, heap, z);
@@ -249,18 +248,19 @@ impl Record {
         let mut log = [0u32; 72];
         let e = self.empty_cache(heap, &mut log);
         let rec = e.rec;
+        let notes = e.k;
         let next = rec.next;
         let found = steps::search_first_fit(next, heap, z);
         match found {
             Found::Lost => {
-                steps::put_back(heap, &log, e.k);
+                steps::put_back(heap, &log, notes);
                 Out {
                     answer: Answer::Damaged,
                     rec: self,
                 }
             }
             Found::Nothing(d) => {
-                steps::put_back(heap, &log, e.k);
+                steps::put_back(heap, &log, notes);
                 Out {
                     answer: Answer::NoFit(c + d as u32),
                     rec: self,

@@ -12,8 +12,8 @@ use Rattle.heap.proofs.record.Record.serve_merged.Tie as tie
 element-copy-out-if1 : tie.Need-element-copy-out-if1
 element-copy-out-if1 c = search needs
 
-add-t18 : tie.Need-add-t18
-add-t18 c =
+add-t19 : tie.Need-add-t19
+add-t19 c =
     omega (
       arith,
       missed-few (c .before .before .before .args .self) (c .before .before .before .args .heap .now) (c .before .before .before .args .z)
@@ -52,8 +52,8 @@ slice-aggregate-put-back-2 c = search needs
 put-back-requires-2 : tie.Need-put-back-requires-2
 put-back-requires-2 c κs = search needs
 
-cast-t38 : tie.Need-cast-t38
-cast-t38 c =
+cast-t39 : tie.Need-cast-t39
+cast-t39 c =
     let at-found = c .before .before .before .before .before .before in
     let at-search-first-fit = at-found .before .before in
     let at-empty-cache = at-search-first-fit .before .before .before .before .before .before .before in
@@ -68,8 +68,8 @@ cast-t38 c =
     let few = nowhere-safe (e .rec) _ z on _ found in
     record { fits = omega arith }
 
-add-t39 : tie.Need-add-t39
-add-t39 c =
+add-t40 : tie.Need-add-t40
+add-t40 c =
     let at-found = c .before .before .before .before .before .before in
     let at-search-first-fit = at-found .before .before in
     let at-empty-cache = at-search-first-fit .before .before .before .before .before .before .before in
@@ -190,7 +190,7 @@ serve-merged-spec =
     tie.close
     (tie.spec
     element-copy-out-if1
-    add-t18
+    add-t19
     returns
     slice-aggregate-empty-cache
     empty-cache-requires
@@ -201,8 +201,8 @@ serve-merged-spec =
     enum-known-found
     slice-aggregate-put-back-2
     put-back-requires-2
-    cast-t38
-    add-t39
+    cast-t39
+    add-t40
     enum-known-found-2
     cast-take-found
     add-take-found
