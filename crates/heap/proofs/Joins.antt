@@ -24,11 +24,12 @@ use Rattle.rules.specs.Making.{State}
 use Rattle.heap.specs.declared.record.Record.{Record}
 use Rattle.heap.specs.Seen.{seen, base, withPrevs, withNexts, stored}
 use Rattle.heap.specs.Released.{freeListed}
-use Rattle.steps.specs.Chunk.{freed, leftFreeIn, rightFreeIn, clearedIn, emptiedIn, caseOf, Releasable}
+use Rattle.steps.specs.Chunk.{freedIn, freed, leftFreeIn, rightFreeIn, clearedIn, emptiedIn, caseOf, Releasable}
 use Rattle.steps.specs.declared.merge.Merged.{Merged}
 use Rattle.steps.specs.Merged.{mergedIn, plainBy}
-use Rattle.steps.specs.Found.{walkIn}
-use Rattle.steps.proofs.Neighbours.{merged-plain}
+use Rattle.steps.specs.declared.search.Found.{Found}
+use Rattle.steps.specs.Found.{told, walkIn}
+use Rattle.steps.proofs.Neighbours.{freed-plain, merged-plain}
 
 -- storing a sentinel's link, as numbers
 pub numbers-stored : (ls : List Link) (l : ℕ) (v : Link) → numbers (stored ls l v) ≡ setSentinel (numbers ls) l (v .0)
@@ -155,14 +156,15 @@ excess-whole r ws ws1 w n z e j hw hn ee h ej e1 =
     let k : n < z + 12 = omega arith in
     rw (lt-leb _ _ k, e1, right-place w n j hw hn ej)
 
-pub excess-cut : (r q : Record) (ws ws1 ws2 : List ℕ) (w n z e j k x : ℕ) → w + n / 4 + 6 < 65536 → z < 2 ^ 32 → e ≡ n - z → 12 ≤ e → j ≡ rightOf w z % 2 ^ 64 → ws1 ≡ freed ws j e
+pub excess-cut : (r q : Record) (ws ws1 ws2 : List ℕ) (w n z e j k x : ℕ) → w + n / 4 + 6 < 65536 → z < 2 ^ 32 → e ≡ n - z → 12 ≤ e → j ≡ rightOf w z % 2 ^ 64 → ws1 ≡ freedIn ws j e
     → k ≡ classOf e → x ≡ heldName links j → seen q ws2 ≡ link base (seen r ws1) k x → seen q ws2 ≡ returnExcess base (seen r ws) w n z
 unfolding returnExcess markFree freed
 excess-cut r q ws ws1 ws2 w n z e j k x hw hz ee h ej e1 ek ex eq =
     let c : z + 12 ≤ n = omega arith in
     let pj : j ≡ rightOf w z = right-place w z j (omega arith) hz ej in
     let px : x ≡ j + 6 = held-name j x (omega arith) ex in
-    rw (le-leb _ _ c) (eq ∙ rw (e1, ek, px, pj, ee) refl)
+    let tags : ws1 ≡ freed ws j e = e1 ∙ freed-plain ws j e (omega arith) (omega arith) in
+    rw (le-leb _ _ c) (eq ∙ rw (tags, ek, px, pj, ee) refl)
 
 -- TAKING
 pub take-by : (r a q : Record) (ws ws1 ws2 ws3 : List ℕ) (x w n z m : ℕ) → 6 ≤ x → w ≡ x - 6 → seen a ws1 ≡ unlink base (seen r ws) x → m ≡ portion n z
@@ -174,13 +176,14 @@ take-by r a q ws ws1 ws2 ws3 x w n z m hx ew ea em e2 eq =
 
 -- A FREE CHUNK TAGGED AND LISTED
 pub free-listed-by : (r q : Record) (ws ws1 ws2 ws3 : List ℕ) (i m j k l : ℕ) → i + 6 < 65536 → m < 2 ^ 32
-    → ws1 ≡ freed ws i m → j ≡ rightOf i m % 2 ^ 64 → ws2 ≡ changed leftFreed ws1 j → k ≡ classOf m → l ≡ heldName links i
+    → ws1 ≡ freedIn ws i m → j ≡ rightOf i m % 2 ^ 64 → ws2 ≡ changed leftFreed ws1 j → k ≡ classOf m → l ≡ heldName links i
     → seen q ws3 ≡ link base (seen r ws2) k l → seen q ws3 ≡ freeListed (seen r ws) i m
 unfolding freeListed clearLeft markFree freed changed
 free-listed-by r q ws ws1 ws2 ws3 i m j k l hi hm e1 ej e2 ek el eq =
     let pl : l ≡ i + 6 = held-name i l hi el in
     let pj : j ≡ rightOf i m = right-place i m j (omega arith) hm ej in
-    eq ∙ rw (ek, pl, e2, e1, pj) refl
+    let tags : ws1 ≡ freed ws i m = e1 ∙ freed-plain ws i m (omega arith) hm in
+    eq ∙ rw (ek, pl, e2, tags, pj) refl
 
 -- RELEASING: the merged chunk lies in the space that links can name
 pub release-room : (ws : List ℕ) (x n : ℕ) (g : Merged) → Releasable ws x n → g ≡ mergedIn ws x n
@@ -218,6 +221,11 @@ pub first-fit-is : (r : Record) (ws : List ℕ) (z : ℕ)
     → walkedFit base (seen r ws) z ≡ searchAll (walkIn (numbers (r .next)) ws z (length ws / 4)) (6 - startOf z) (startOf z) 0
 unfolding walkedFit walkIn
 first-fit-is r ws z = refl
+
+-- and by the case of what it says
+pub met : (r : Record) (ws : List ℕ) (z : ℕ) (q p : Found) → told q ≡ searchAll (walkIn (numbers (r .next)) ws z (length ws / 4)) (6 - startOf z) (startOf z) 0
+    → q ≡ p → told p ≡ walkedFit base (seen r ws) z
+met r ws z q p e h = sym (ap (λ (f : Found). told f) h) ∙ e ∙ sym (first-fit-is r ws z)
 
 -- EMPTYING, on record and words
 cleared-seen : (r : Record) (ws : List ℕ) (i k : ℕ) → seen r (clearedIn ws i k) ≡ cleared base (seen r ws) i k

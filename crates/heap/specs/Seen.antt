@@ -19,18 +19,14 @@ use Rattle.heap.specs.declared.record.Record.{Record}
 abbrev pub base : Ops State Figures
 base = ops narrow
 
+-- the cached chunks, oldest first, by their links
+abbrev pub cachedIn : Record → List ℕ
+cachedIn r = cachedOf (numbers (r .cached))
+
 -- what the record holds besides its links
 abbrev pub figuresOf : Record → Figures
 figuresOf r =
-    record {
-      words = r .words;
-      cached = cachedOf (numbers (r .cached));
-      inUse = r .«in_use»;
-      committed = r .committed;
-      peak = r .peak;
-      high = r .high;
-      flag = r .fresh;
-    }
+    record { words = r .words; cached = cachedIn r; inUse = r .«in_use»; committed = r .committed; peak = r .peak; high = r .high; flag = r .fresh }
 
 -- record and words
 abbrev pub seen : Record → List ℕ → State

@@ -36,7 +36,7 @@ same-length : tie.Need-same-length
 same-length c = search needs
 
 returns : tie.Need-returns
-returns c = one-chunk-by (c .before .before .before .before .before .before .before .before .before .before .before .before .before .before .args .self) (c .before .before .link-chunk .result) _ _ _ _ _ _ _ _ (omega (arith, c .before .before .before .before .before .before .before .before .before .before .before .before .before .before .pre)) refl refl (c .before .before .before .before .before .before .before .before .before .before .before .set-free-chunk-hdr-ftr .ensures) (c .before .before .before .before .before .before .before .put .ensures) (c .before .before .before .before .chunk-size-to-list-index .ensures) (c .before .before .link-chunk .ensures)
+returns c = one-chunk-by (c .before .before .before .before .before .before .before .before .before .before .before .before .before .before .args .self) (c .before .before .link-chunk .result) _ _ _ _ _ _ _ _ (omega (arith, c .before .before .before .before .before .before .before .before .before .before .before .before .before .before .pre)) (c .before .before .before .before .before .before .before .before .before .before .before .before .before .before .pre .1) refl refl (c .before .before .before .before .before .before .before .before .before .before .before .set-free-chunk-hdr-ftr .ensures) (c .before .before .before .before .before .before .before .put .ensures) (c .before .before .before .before .chunk-size-to-list-index .ensures) (c .before .before .link-chunk .ensures)
 
 pub one-chunk-spec : {M : Type 1} → statement M
 one-chunk-spec =
