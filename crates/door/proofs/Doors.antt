@@ -36,7 +36,7 @@ pub data Door : Type 0 where
   handingOut : ℕ → Door
   takingBack : ℕ → Door
 
--- what the contract of each says a state becomes, with so many cache places
+-- what a state becomes by the contract of each, with this many cache places
 abbrev pub through : ℕ → Door → State → Outcome State
 through places (making n) s = makeOver s n
 through places (handingOut size) s = hand base 65529 places s size

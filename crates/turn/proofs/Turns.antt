@@ -30,7 +30,7 @@ use Rattle.turn.specs.declared.Reply.{Reply}
 use Rattle.turn.specs.Told.{outcomeOf}
 use Rattle.turn.specs.Turned.{withWords, before, onFirst, goingOn, making, turned}
 
--- the contract of `turn`, with so many cache places: the record r over the memory ws, and the line l, give the reply t and leave the memory vs
+-- the contract of `turn`, with this many cache places: the record r over the memory ws, and the line l, give the reply t and leave the memory vs
 abbrev pub Turns : ℕ → Record → List ℕ → Line → Reply → List ℕ → Type 0
 Turns places r ws l t vs = outcomeOf t vs ≡ turned places (seen r ws) l
 

@@ -1,4 +1,4 @@
--- `lischemur_write_map` meets its contract: the answer of `map::write_map` in numbers, beside the room that it leaves. Its count fits 32 bits, since the
+-- `lischemur_write_map` meets its contract: the answer of `map::write_map` in numbers, and the room that it leaves. Its count fits 32 bits, since the
 -- outcome's does.
 use borrow.Author.Needs.{needs}
 use Rattle.door.proofs.Counts.{answer-counted, reply-by}

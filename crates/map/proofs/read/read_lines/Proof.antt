@@ -5,7 +5,7 @@ use Rattle.map.proofs.Reader.Laid.{ReadAs, told-bad, told-rows, into-no
 use Rattle.map.proofs.read.read_lines.Statement.{statement}
 use Rattle.map.proofs.read.read_lines.Tie as tie
 
--- all lines are good, so many
+-- all lines are good, and how many they are
 all : (c : tie.After-checked2)
     → let entry = c .before .before .before .before .before .before in ReadAs (entry .args .places) (entry .args .lines .now) (c .checked2 .given .0 .0)
 all c =
