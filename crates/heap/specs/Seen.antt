@@ -95,8 +95,8 @@ noneCached = replicate 4 (link 0)
 -- the empty record, and the record of a heap of n words whose lists are empty
 abbrev pub emptyRecord : Record
 emptyRecord =
-    let none : Link = record { 0 = 0 } in
-    record { prev = replicate 6 none; next = replicate 6 none; cached = replicate 4 none; words = 0; «in_use» = 0; committed = 0; peak = 0; high = 0; fresh = 0 }
+    let nil : Link = record { 0 = 0 } in
+    record { prev = replicate 6 nil; next = replicate 6 nil; cached = replicate 4 nil; words = 0; «in_use» = 0; committed = 0; peak = 0; high = 0; fresh = 0 }
 
 abbrev pub freshRecord : ℕ → Record
 freshRecord n =
