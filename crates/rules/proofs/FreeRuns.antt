@@ -13,9 +13,10 @@ use borrow.Author.Tests.{eqb-true, eq-eqb, ne-eqb}
 use Rattle.words.specs.Choice.{pick}
 use Rattle.words.specs.Sizes.{roundedOf, thresholdOf}
 use Rattle.words.proofs.Laws.Sizes.{threshold-from}
+use Rattle.rules.specs.Lists.{Mem}
 use Rattle.rules.specs.Ops.{Ops}
 use Rattle.rules.specs.Chunks.{Chunk, free, busy, total, Legal, Calm, usedHead, join, release}
-use Rattle.rules.specs.Exact.{Slot, slot, In, frees}
+use Rattle.rules.specs.Exact.{Slot, slot, frees}
 use Rattle.rules.specs.Rules.{Figures, byteOf, nameOf, listed, letGo}
 use Rattle.rules.specs.Machine.{Model, gaveM, emptyCacheM, withoutCacheM}
 use Rattle.rules.specs.FreeRuns.{ended, longestRun, runsFrom, freeRuns, greatest, longest, Inside}
@@ -177,16 +178,16 @@ module _ {S : Type 0} {op : Ops S Figures} {most places : ℕ} (E : Edition op m
 
   -- NO FIT BY RUNS: every free chunk of the merged layout is shorter than t exactly if every run is
   pub runs-short : (s : S) (m : Model) (t : ℕ) → Sh s m
-      → (((x n : ℕ) → In (slot x n) (frees 0 (withoutCacheM m .cs)) → n < t) → (x n : ℕ) → In (slot x n) (freeRuns m) → n < t)
-      × (((x n : ℕ) → In (slot x n) (freeRuns m) → n < t) → (x n : ℕ) → In (slot x n) (frees 0 (withoutCacheM m .cs)) → n < t)
+      → (((x n : ℕ) → Mem (slot x n) (frees 0 (withoutCacheM m .cs)) → n < t) → (x n : ℕ) → Mem (slot x n) (freeRuns m) → n < t)
+      × (((x n : ℕ) → Mem (slot x n) (freeRuns m) → n < t) → (x n : ℕ) → Mem (slot x n) (frees 0 (withoutCacheM m .cs)) → n < t)
   runs-short s m t h =
       let e = runs-are-free s m h in
-      (λ f x n i. f x n (subst (In (slot x n)) e i), λ f x n i. f x n (subst (In (slot x n)) (sym e) i))
+      (λ f x n i. f x n (subst (Mem (slot x n)) e i), λ f x n i. f x n (subst (Mem (slot x n)) (sym e) i))
 
   -- and exactly if the longest run is
   pub longest-run-short : (s : S) (m : Model) (t : ℕ) → Sh s m → 0 < t
-      → (((x n : ℕ) → In (slot x n) (frees 0 (withoutCacheM m .cs)) → n < t) → greatest (freeRuns m) < t)
-      × (greatest (freeRuns m) < t → (x n : ℕ) → In (slot x n) (frees 0 (withoutCacheM m .cs)) → n < t)
+      → (((x n : ℕ) → Mem (slot x n) (frees 0 (withoutCacheM m .cs)) → n < t) → greatest (freeRuns m) < t)
+      × (greatest (freeRuns m) < t → (x n : ℕ) → Mem (slot x n) (frees 0 (withoutCacheM m .cs)) → n < t)
   longest-run-short s m t h p =
       let e = longest-run s m h in (
         λ f. let a = longest-short 0 t (withoutCacheM m .cs) p f in omega arith,
@@ -209,7 +210,7 @@ module _ {S : Type 0} {op : Ops S Figures} {most places : ℕ} (E : Edition op m
       )
 
   -- EVERY FREE CHUNK LIES INSIDE one of the merged layout
-  pub free-inside : (s : S) (m : Model) → Sh s m → (x n : ℕ) → In (slot x n) (frees 0 (m .cs)) → Inside (frees 0 (withoutCacheM m .cs)) (byteOf x) n
+  pub free-inside : (s : S) (m : Model) → Sh s m → (x n : ℕ) → Mem (slot x n) (frees 0 (m .cs)) → Inside (frees 0 (withoutCacheM m .cs)) (byteOf x) n
   free-inside s m h x n i =
       let f = free-at 0 (m .cs) (slot x n) i in
       let l = subst Legal (f .is) (h .legal) in

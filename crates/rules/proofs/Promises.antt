@@ -16,7 +16,7 @@ use Rattle.rules.specs.Ops.{Ops}
 use Rattle.rules.specs.State.{ops}
 use Rattle.rules.specs.Rules.{Figures, Outcome, says, byteOf, nameOf, serves, withCached, counted, withoutCache, withoutCacheF}
 use Rattle.rules.specs.Machine.{Model, ask, give, sizeM, liveM, gaveM, settledM, withoutCacheM}
-use Rattle.rules.specs.Exact.{slot, In, frees}
+use Rattle.rules.specs.Exact.{slot, frees}
 use Rattle.rules.specs.Sound.{Shows, Sound}
 use Rattle.rules.specs.Test.{soundᵇ}
 use Rattle.rules.specs.Demands.{NoFit, hand, back}
@@ -99,7 +99,7 @@ module _ {S : Type 0} {op : Ops S Figures} {most places : ℕ} (E : Edition op m
         may = subst (λ (n : ℕ). thresholdOf z ≤ 4 * (n - 1)) (sym (h .words)) (fits (w .may));
         cache = λ x j. let u = h .cache .used x j in
             ap (λ (n : ℕ). serves n z) (sym (used-same E s m h x (u .0) (u .1))) ∙ w .cache x (subst (λ (f : Figures). Mem x (f .cached)) (sym (h .figs)) j);
-        lists = λ x n i. w .lists x n (subst (λ cs. In (slot x n) (frees 0 cs)) c i);
+        lists = λ x n i. w .lists x n (subst (λ cs. Mem (slot x n) (frees 0 cs)) c i);
       }
     where
       fits : (Never op most places s z → ⊥) → thresholdOf z ≤ 4 * (op .count s - 1)

@@ -10,7 +10,7 @@ use Rattle.words.specs.Sizes.{roundedOf, thresholdOf}
 use Rattle.words.specs.Links.{Width, prev, next}
 use Rattle.rules.specs.Lists.{Mem}
 use Rattle.rules.specs.Ops.{Ops}
-use Rattle.rules.specs.Exact.{slot, In, frees}
+use Rattle.rules.specs.Exact.{slot, frees}
 use Rattle.rules.specs.Steps.{lengthAt}
 use Rattle.rules.specs.Rules.{Figures, serves, withoutCache, withoutCacheF}
 use Rattle.rules.specs.Making.{make}
@@ -68,7 +68,7 @@ module _ {S : Type 0} (op : Ops S Figures) (most places : ℕ) where
     pub cache : (x : ℕ) → Mem x (op .rest s .cached) → serves (lengthAt op s x) z ≡ false
     pub merged : Model
     pub shows : Shows op most places (withoutCache op s) merged
-    pub lists : (x n : ℕ) → In (slot x n) (frees 0 (merged .cs)) → n < thresholdOf z
+    pub lists : (x n : ℕ) → Mem (slot x n) (frees 0 (merged .cs)) → n < thresholdOf z
 
   -- a handout is done exactly for an allowable size that may ever fit, on a sound state, where something fits
   abbrev pub ServedExactly : Type 0
