@@ -82,7 +82,7 @@ module _ {S : Type 0} {op : Ops S Figures} {most places : ℕ} (E : Edition op m
   unfit-told s m h z w =
       record {
         sound = (m, h);
-        may = λ n. (let a = w .may in let b = h .words in omega arith);
+        may = subst (λ (n : ℕ). thresholdOf z ≤ 4 * (n - 1)) (h .words) (w .may);
         cache = λ x i. let j = subst (λ (f : Figures). Mem x (f .cached)) (h .figs) i in
             let u = h .cache .used x j in
             ap (λ (n : ℕ). serves n z) (used-same E s m h x (u .0) (u .1)) ∙ w .cache x j;
@@ -96,14 +96,11 @@ module _ {S : Type 0} {op : Ops S Figures} {most places : ℕ} (E : Edition op m
   unfit-shown s m h z w =
       let c = layout-unique E (withoutCache op s) (withoutCacheM m) (w .merged) (without-cache-shows E s m h) (w .shows) in
       record {
-        may = subst (λ (n : ℕ). thresholdOf z ≤ 4 * (n - 1)) (sym (h .words)) (fits (w .may));
+        may = subst (λ (n : ℕ). thresholdOf z ≤ 4 * (n - 1)) (sym (h .words)) (w .may);
         cache = λ x j. let u = h .cache .used x j in
             ap (λ (n : ℕ). serves n z) (sym (used-same E s m h x (u .0) (u .1))) ∙ w .cache x (subst (λ (f : Figures). Mem x (f .cached)) (sym (h .figs)) j);
         lists = λ x n i. w .lists x n (subst (λ cs. Mem (slot x n) (frees 0 cs)) c i);
       }
-    where
-      fits : (Never op most places s z → ⊥) → thresholdOf z ≤ 4 * (op .count s - 1)
-      fits f = omega arith
 
   -- 3, exactly
   pub three-exactly : ThreeExactly op most places

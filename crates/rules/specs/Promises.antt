@@ -64,7 +64,7 @@ module _ {S : Type 0} (op : Ops S Figures) (most places : ℕ) where
   -- the threshold
   pub record Unfit (s : S) (z : ℕ) : Type 0 where
     pub sound : Sound op most places s
-    pub may : Never s z → ⊥
+    pub may : thresholdOf z ≤ 4 * (op .count s - 1)
     pub cache : (x : ℕ) → Mem x (op .rest s .cached) → serves (lengthAt op s x) z ≡ false
     pub merged : Model
     pub shows : Shows op most places (withoutCache op s) merged
