@@ -14,7 +14,7 @@ use mathlib.Core.Bool.{Bool, true, false}
 use mathlib.Core.List.{List, [], _∷_, _++_, List·Memᴰ·head}
 use Prim.Native.Nat.{ℕ, _+_, _-_, _*_, _/_, _%_, _^_, _≤_, _<_, min}
 use native.Mathlib.Omega.{arith}
-use borrow.Author.Tests.{lt-ltb, le-ltb, lt-leb, le-leb, leb-true, eq-eqb, ne-eqb}
+use borrow.Author.Tests.{ltb-true, ltb-false, lt-ltb, le-ltb, lt-leb, le-leb, leb-true, eq-eqb, ne-eqb}
 use lib.Dec.{eqb, leb, ltb}
 use lib.ListN.{length, getD, set, drop, length-append}
 use Rattle.words.specs.declared.names.Link.{Link}
@@ -23,7 +23,7 @@ use Rattle.words.specs.Choice.{pick}
 use Rattle.words.specs.Numbers.{numbers}
 use Rattle.words.proofs.Laws.Numbers.{numbers-at, length-numbers}
 use Rattle.words.specs.Names.{links, offsets, payloads, heldName}
-use Rattle.words.specs.Sizes.{classOf, roundedOf}
+use Rattle.words.specs.Sizes.{classOf, roundedOf, thresholdOf}
 use Rattle.words.specs.Tags.{at, lengthOf, rightOf, footerOf}
 use Rattle.words.specs.Links.{narrow}
 use Rattle.rules.specs.Ops.{Ops}
@@ -31,7 +31,7 @@ use Rattle.rules.specs.Lists.{Mem}
 use Rattle.rules.specs.Steps.{portion, lengthAt, unlink, link, setLeft, clearLeft, markFree, markUsed, oneChunk, returnExcess, takeChunk, emptied, leftFree, rightFree, merge, merged, releaseChunk}
 use Rattle.rules.specs.Search.{Found, nowhere, lost}
 use Rattle.rules.specs.Search as rule
-use Rattle.rules.specs.Rules.{Figures, Outcome, says, byteOf, nameOf, one, choose, listed, counted, released, letGo, withoutCache, firstFit, took, fromMerged, fromList, fromCache, serve, handOut, live, settled, takeBack}
+use Rattle.rules.specs.Rules.{Figures, Outcome, says, byteOf, nameOf, one, never, choose, listed, counted, released, letGo, withoutCache, firstFit, took, fromMerged, fromList, fromCache, serve, handOut, live, settled, takeBack}
 use Rattle.rules.specs.Rules as rules
 use Rattle.rules.specs.Making.{State, make, fresh}
 use Rattle.rules.specs.Demands.{hand, back}
@@ -41,7 +41,7 @@ use Rattle.heap.specs.declared.record.Record.{Record}
 use Rattle.heap.specs.declared.kind.Kind.{Kind}
 use Rattle.heap.specs.declared.kind.Kind.the-variants.{One, Four}
 use Rattle.heap.specs.declared.calls.Answer.{Answer}
-use Rattle.heap.specs.declared.calls.Answer.the-variants.{Done, ZeroSize, TooLarge, NoFit, NotLive, Damaged, BadLength}
+use Rattle.heap.specs.declared.calls.Answer.the-variants.{Done, ZeroSize, TooLarge, NoFit, NotLive, Damaged, BadLength, NeverFits}
 use Rattle.heap.specs.Seen.{seen, base, figuresOf, withCached, countedIn, countedOut, emptyRecord, freshRecord, FourPlaces}
 use Rattle.heap.specs.Kind.{placesOf}
 use Rattle.steps.specs.Chunk.{freedIn, freed, leftFreeIn, rightFreeIn, emptiedIn, Releasable}
@@ -199,7 +199,9 @@ take-rest s w n z = go (leb (z + 12) n)
     marked : State
     marked = markUsed base (unlink base s (w + 6)) w (portion n z)
 
-    go : (t : Bool) → pick t (link base (markFree base marked (rightOf w z) (n - z)) (classOf (n - z)) (rightOf w z + 6)) (setLeft base marked (rightOf w n)) .rest ≡ s .rest
+    go : (t : Bool)
+        → pick t (link base (markFree base marked (rightOf w z) (n - z)) (classOf (n - z)) (rightOf w z + 6)) (setLeft base marked (rightOf w n)) .rest
+        ≡ s .rest
     go true = refl
     go false = refl
 
@@ -330,19 +332,23 @@ module _ (r : Record) (ws : List ℕ) (p : ℕ) where
   unfolding live
   live-low h = rw (lt-leb _ _ h) refl
 
-  -- its link stands in a place of the cache
+  -- its link is among the cached chunks' exactly where it stands in a place of the cache
+  among : 4 ≤ p → listed ((p - 4) / 4 + 6) (cachedOf (numbers (r .cached))) ≡ listed ((p - 4) / 4 + 6) (numbers (r .cached))
+  among h = listed-cached ((p - 4) / 4 + 6) (numbers (r .cached)) (λ q. omega arith)
+
+  -- it does
   pub live-cached : (b : Bool) → 4 ≤ p → b ≡ listed ((p - 4) / 4 + 6) (numbers (r .cached)) → b ≡ true → 0 ≡ live base (seen r ws) p
   unfolding live
   live-cached b h e t =
-      let c : listed ((p - 4) / 4 + 6) (cachedOf (numbers (r .cached))) ≡ true = listed-cached ((p - 4) / 4 + 6) (numbers (r .cached)) (λ q. omega arith) ∙ sym e ∙ t in
+      let c : listed ((p - 4) / 4 + 6) (cachedOf (numbers (r .cached))) ≡ true = among h ∙ sym e ∙ t in
       rw (le-leb _ _ h, c) refl
 
-  -- or in none
+  -- or does not
   pub live-other : (b : Bool) (v : ℕ) → 4 ≤ p → b ≡ listed ((p - 4) / 4 + 6) (numbers (r .cached)) → b ≡ false → v ≡ usedWalk (at ws) (length ws) 0 (p - 4)
       → v ≡ live base (seen r ws) p
   unfolding live
   live-other b v h e t ev =
-      let c : listed ((p - 4) / 4 + 6) (cachedOf (numbers (r .cached))) ≡ false = listed-cached ((p - 4) / 4 + 6) (numbers (r .cached)) (λ q. omega arith) ∙ sym e ∙ t in
+      let c : listed ((p - 4) / 4 + 6) (cachedOf (numbers (r .cached))) ≡ false = among h ∙ sym e ∙ t in
       rw (le-leb _ _ h, c) (ev ∙ used-tile (at ws) (length ws) 0 (p - 4))
 
 -- ---- THE OLDEST CACHED CHUNK, in the first place
@@ -382,9 +388,10 @@ module _ (r : Record) (ws : List ℕ) (used : 0 < usedPlaces (numbers (r .cached
 
 -- ---- TAKEN BACK
 
--- the newest stays beside the others where there are places enough; else the oldest is released
+-- the newest stays with the others if there are places enough; else the oldest is released
 module _ (places : ℕ) (s : State) (u : ℕ) where
-  settled-keep : (ks : List ℕ) (l : ℕ) → length (ks ++ l ∷ []) ≤ places → settled base places s u (ks ++ l ∷ []) ≡ base .setRest s (rules.withCached (s .rest) u (ks ++ l ∷ []))
+  settled-keep : (ks : List ℕ) (l : ℕ) → length (ks ++ l ∷ []) ≤ places
+      → settled base places s u (ks ++ l ∷ []) ≡ base .setRest s (rules.withCached (s .rest) u (ks ++ l ∷ []))
   unfolding settled
   settled-keep [] l h = rw (le-leb _ _ h)
   settled-keep (k ∷ ks) l h = rw (le-leb _ _ h)
@@ -394,8 +401,9 @@ module _ (places : ℕ) (s : State) (u : ℕ) where
   unfolding settled
   settled-let k ks h = rw (lt-leb _ _ h)
 
--- so many places are used
-module _ (places : ℕ) (r : Record) (ws : List ℕ) (u : ℕ) (l : Link) (k : ℕ) (ok : soundAt 4 (seen r ws) ≡ true) (ek : k ≡ usedPlaces (numbers (r .cached))) where
+-- k places are used
+module _ (places : ℕ) (r : Record) (ws : List ℕ) (u : ℕ) (l : Link) (k : ℕ)
+    (ok : soundAt 4 (seen r ws) ≡ true) (ek : k ≡ usedPlaces (numbers (r .cached))) where
   -- the cached chunks, and how many they are
   abbrev kept : List ℕ
   kept = cachedOf (numbers (r .cached))
@@ -411,7 +419,8 @@ module _ (places : ℕ) (r : Record) (ws : List ℕ) (u : ℕ) (l : Link) (k : �
       let n = length-numbers (r .cached) in
       let room : usedPlaces (numbers (r .cached)) < length (numbers (r .cached)) = omega (arith, n, four, few, hk, ek) in
       let new : cachedOf (numbers c) ≡ kept ++ l .0 ∷ [] =
-      ap cachedOf (ec ∙ ap (λ (j : ℕ). set (numbers (r .cached)) j (l .0)) ek) ∙ set-last (numbers (r .cached)) (l .0) (cache-packed r ws ok) (λ z. omega (arith, named, z)) room in
+      ap cachedOf (ec ∙ ap (λ (j : ℕ). set (numbers (r .cached)) j (l .0)) ek)
+      ∙ set-last (numbers (r .cached)) (l .0) (cache-packed r ws ok) (λ z. omega (arith, named, z)) room in
       ap (λ (t : Record). seen t ws) eq ∙ ap (λ (ks : List ℕ). base .setRest (seen r ws) (rules.withCached (figuresOf r) u ks)) new
       ∙ sym (settled-keep places (seen r ws) u kept (l .0) (omega (arith, more, many, hk)))
 
@@ -451,31 +460,45 @@ module _ (places : ℕ) (r : Record) (ws : List ℕ) where
   unfolding handOut
   hand-large size h k = rw (ne-eqb _ _ h, lt-ltb _ _ k) refl
 
-  pub hand-damaged : (size : ℕ) (b : Bool) → (size ≡ 0 → ⊥) → size ≤ 4294967284 → b ≡ soundAt places (seen r ws) → b ≡ false → outcome Damaged (seen r ws) ≡ hand base 65529 places (seen r ws) size
+  pub hand-damaged : (size : ℕ) (b : Bool) → (size ≡ 0 → ⊥) → size ≤ 4294967284 → b ≡ soundAt places (seen r ws) → b ≡ false
+      → outcome Damaged (seen r ws) ≡ hand base 65529 places (seen r ws) size
   unfolding handOut
   hand-damaged size b h k e f = rw (ne-eqb _ _ h, le-ltb _ _ k, sym e ∙ f) refl
 
-  pub hand-served : (size z v : ℕ) (b : Bool) (o : Outcome State) → (size ≡ 0 → ⊥) → size ≤ 4294967284 → b ≡ soundAt places (seen r ws) → b ≡ true → v ≡ roundedOf size → z ≡ v
-      → o ≡ serve base (seen r ws) z → o ≡ hand base 65529 places (seen r ws) size
+  -- it can never fit, or it may
+  pub hand-never : (size z v : ℕ) (b d : Bool) → (size ≡ 0 → ⊥) → size ≤ 4294967284 → b ≡ soundAt places (seen r ws) → b ≡ true → v ≡ roundedOf size → z ≡ v
+      → d ≡ never (length ws) z → d ≡ true → outcome NeverFits (seen r ws) ≡ hand base 65529 places (seen r ws) size
   unfolding handOut
-  hand-served size z v b o h k e f ev ez eo = rw (ne-eqb _ _ h, le-ltb _ _ k, sym e ∙ f, ← ev, ← ez) eo
+  hand-never size z v b d h k e f ev ez ed fd =
+      let n : never (length ws) (roundedOf size) ≡ true = ap (never (length ws)) (sym (ez ∙ ev)) ∙ sym ed ∙ fd in
+      rw (ne-eqb _ _ h, le-ltb _ _ k, sym e ∙ f, n) refl
+
+  pub hand-served : (size z v : ℕ) (b d : Bool) (o : Outcome State) → (size ≡ 0 → ⊥) → size ≤ 4294967284 → b ≡ soundAt places (seen r ws) → b ≡ true
+      → v ≡ roundedOf size → z ≡ v → d ≡ never (length ws) z → d ≡ false → o ≡ serve base (seen r ws) z → o ≡ hand base 65529 places (seen r ws) size
+  unfolding handOut
+  hand-served size z v b d o h k e f ev ez ed fd eo =
+      let n : never (length ws) (roundedOf size) ≡ false = ap (never (length ws)) (sym (ez ∙ ev)) ∙ sym ed ∙ fd in
+      rw (ne-eqb _ _ h, le-ltb _ _ k, sym e ∙ f, n, ← ev, ← ez) eo
 
   pub back-damaged : (p : ℕ) (b : Bool) → b ≡ soundAt places (seen r ws) → b ≡ false → outcome Damaged (seen r ws) ≡ back base 65529 places (seen r ws) p
   unfolding takeBack
   back-damaged p b e f = rw (sym e ∙ f) refl
 
-  pub back-dead : (p n : ℕ) (b : Bool) → b ≡ soundAt places (seen r ws) → b ≡ true → n ≡ live base (seen r ws) p → n ≡ 0 → outcome NotLive (seen r ws) ≡ back base 65529 places (seen r ws) p
+  pub back-dead : (p n : ℕ) (b : Bool) → b ≡ soundAt places (seen r ws) → b ≡ true → n ≡ live base (seen r ws) p → n ≡ 0
+      → outcome NotLive (seen r ws) ≡ back base 65529 places (seen r ws) p
   unfolding takeBack
   back-dead p n b e f en z = rw (sym e ∙ f, eq-eqb _ _ (sym en ∙ z)) refl
 
-  pub live-name : (p n i l : ℕ) (b : Bool) → b ≡ soundAt places (seen r ws) → b ≡ true → n ≡ live base (seen r ws) p → (n ≡ 0 → ⊥) → i ≡ payloads .word p → l ≡ heldName links i → l ≡ nameOf (p - 4)
+  pub live-name : (p n i l : ℕ) (b : Bool) → b ≡ soundAt places (seen r ws) → b ≡ true → n ≡ live base (seen r ws) p → (n ≡ 0 → ⊥)
+      → i ≡ payloads .word p → l ≡ heldName links i → l ≡ nameOf (p - 4)
   live-name p n i l b e f en d ei el =
       let q = live-fitsᵇ (ours places) (seen r ws) (sym e ∙ f) p (λ k. d (en ∙ k)) in
       let a = figures-fitᵇ (ours places) (seen r ws) (sym e ∙ f) .accepted in
       let u = q .inside in
       omega arith
 
-  pub back-done : (q : Record) (ws1 : List ℕ) (p n u l m : ℕ) (b : Bool) → m ≡ places → b ≡ soundAt places (seen r ws) → b ≡ true → n ≡ live base (seen r ws) p → (n ≡ 0 → ⊥) → u ≡ r .«in_use» - n → l ≡ nameOf (p - 4)
+  pub back-done : (q : Record) (ws1 : List ℕ) (p n u l m : ℕ) (b : Bool) → m ≡ places → b ≡ soundAt places (seen r ws) → b ≡ true
+      → n ≡ live base (seen r ws) p → (n ≡ 0 → ⊥) → u ≡ r .«in_use» - n → l ≡ nameOf (p - 4)
       → seen q ws1 ≡ settled base m (seen r ws) u (cachedOf (numbers (r .cached)) ++ l ∷ []) → says 0 0 0 (seen q ws1) ≡ back base 65529 places (seen r ws) p
   unfolding takeBack
   back-done q ws1 p n u l m b em e f en d eu el eq =
@@ -483,8 +506,39 @@ module _ (places : ℕ) (r : Record) (ws : List ℕ) where
       let h : u ≡ r .«in_use» - live base (seen r ws) p = eu ∙ ap (λ (k : ℕ). r .«in_use» - k) en in
       rw (sym e ∙ f, ne-eqb _ _ d′) (ap (says 0 0 0) (eq ∙ rw (em, el, h) refl))
 
+-- a threshold is a multiple of 8, so that quarters compare as the whole does
+threshold-8 : (z : ℕ) → z % 8 ≡ 0 → thresholdOf z % 8 ≡ 0
+threshold-8 z h = go (leb 512 z) (leb 256 z) (leb 128 z) (leb 64 z) (leb 32 z)
+  where
+    go : (a b c d e : Bool) → pick a z (pick b 512 (pick c 256 (pick d 128 (pick e 64 32)))) % 8 ≡ 0
+    go true b c d e = h
+    go false true c d e = refl
+    go false false true d e = refl
+    go false false false true e = refl
+    go false false false false true = refl
+    go false false false false false = refl
+
+pub never-by : (n z m t : ℕ) → z % 8 ≡ 0 → m ≡ n - 1 → t ≡ thresholdOf z → ltb m (t / 4) ≡ never n z
+never-by n z m t h em et = go (ltb m (t / 4)) refl
+  where
+    eights : t % 8 ≡ 0
+    eights = ap (λ (k : ℕ). k % 8) et ∙ threshold-8 z h
+
+    go : (b : Bool) → ltb m (t / 4) ≡ b → b ≡ never n z
+    go true e =
+        let k = ltb-true m (t / 4) e in
+        let u = eights in
+        let i : 4 * (n - 1) < t = omega arith in
+        sym (ap (ltb (4 * (n - 1))) (sym et) ∙ lt-ltb (4 * (n - 1)) t i)
+    go false e =
+        let k = ltb-false m (t / 4) e in
+        let u = eights in
+        let i : t ≤ 4 * (n - 1) = omega arith in
+        sym (ap (ltb (4 * (n - 1))) (sym et) ∙ le-ltb (4 * (n - 1)) t i)
+
 -- what a kind's audit passed may be served
-pub rounded-served : (k : Kind) (r : Record) (ws : List ℕ) (size v : ℕ) (b : Bool) → b ≡ soundAt (placesOf k) (seen r ws) → b ≡ true → v ≡ roundedOf size → Served (seen r ws) v
+pub rounded-served : (k : Kind) (r : Record) (ws : List ℕ) (size v : ℕ) (b : Bool)
+    → b ≡ soundAt (placesOf k) (seen r ws) → b ≡ true → v ≡ roundedOf size → Served (seen r ws) v
 rounded-served k r ws size v b e f ev = record { sound = sound-four k (seen r ws) b e f; least = omega arith; eights = ap (λ (k : ℕ). k % 8) ev ∙ eights-of }
   where
     eights-of : roundedOf size % 8 ≡ 0

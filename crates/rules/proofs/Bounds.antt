@@ -1,7 +1,7 @@
 -- BOUNDS for the code: what a sound state's readings keep to, so that no sum leaves its type and no index the heap. Conclusions speak of the state alone.
 --     found-fits      the chunk that a search finds: where it lies, its length, what in use becomes, how many were compared
 --     never-lost      a search on a sound state does not run out;  nowhere-short: nor does it compare more than a quarter of the words
---     cached-fits     a cached chunk;  cached-held: beside what tasks hold;  release-fits: the free bytes on its two sides
+--     cached-fits     a cached chunk;  cached-held: together with what tasks hold;  release-fits: the free bytes on its two sides
 --     live-fits       the offset of a live chunk's payload;  live-held: its length is in use
 --     figures-fit     the word count and the figures
 -- Each for a state that shows a model, and (name with ᵇ) for one that the test says yes to. Assumes nothing.
@@ -22,7 +22,7 @@ use Rattle.rules.specs.Ops.{Ops}
 use Rattle.rules.specs.Steps.{lengthAt, leftFree, rightFree}
 use Rattle.rules.specs.Chunks.{Chunk, free, busy, total, Legal, usedSum}
 use Rattle.rules.proofs.Chunks.{total-append}
-use Rattle.rules.specs.Exact.{slot, In, frees}
+use Rattle.rules.specs.Exact.{slot, frees}
 use Rattle.rules.specs.Tags.{Tags}
 use Rattle.rules.proofs.Tags.{tags-back}
 use Rattle.rules.proofs.Part.{legal-front, legal-back}
@@ -168,7 +168,7 @@ module _ {S : Type 0} {op : Ops S Figures} {most places : ℕ} (E : Edition op m
         met-few z c (omega arith)
 
     -- a free chunk, and its place
-    free-place : (z x c n : ℕ) → z ≤ lengthAt op s x → c ≤ op .count s / 4 → In (slot x n) (frees 0 (m .cs)) → FoundFits op s z x c
+    free-place : (z x c n : ℕ) → z ≤ lengthAt op s x → c ≤ op .count s / 4 → Mem (slot x n) (frees 0 (m .cs)) → FoundFits op s z x c
     free-place z x c n zn cn i =
         let f = free-at 0 (m .cs) (slot x n) i in
         let w = subst (λ cs. Whole (L E s m h) classOf class-below s (m .orders) cs) (f .is) (whole E s m h) in
