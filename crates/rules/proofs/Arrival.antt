@@ -68,10 +68,12 @@ module _ {S : Type 0} {op : Ops S Figures} {most places : ℕ} (E : Edition op m
           let hi = p .1 in
           emptied-in (L E t m h) t (x - 6) k i (whole E t m h .rings .good) (L E t m h .inw i (omega arith)) (omega arith) (omega arith)
 
-  took-arrives : (s : S) (pre : List Chunk) (n : ℕ) (post : List Chunk) (O : ℕ → List ℕ) (f : Figures) (x z : ℕ) → 16 ≤ z → z % 8 ≡ 0 → x ≡ (0 + total pre) / 4 + 6
+  took-arrives : (s : S) (pre : List Chunk) (n : ℕ) (post : List Chunk) (O : ℕ → List ℕ) (f : Figures) (x z : ℕ) → 16 ≤ z → z % 8 ≡ 0
+      → x ≡ (0 + total pre) / 4 + 6
       → Sh s (record { cs = pre ++ free n ∷ post; orders = O; figs = f })
       → Arrived
-      (emptied op (op .setRest (takeChunk op s (x - 6) (lengthAt op s x) z) (counted (op .rest s) (portion (lengthAt op s x) z) (byteOf x + portion (lengthAt op s x) z)))
+      (emptied op (op .setRest (takeChunk op s (x - 6) (lengthAt op s x) z)
+      (counted (op .rest s) (portion (lengthAt op s x) z) (byteOf x + portion (lengthAt op s x) z)))
       (x - 6) (portion (lengthAt op s x) z))
       (tookM (record { cs = pre ++ free n ∷ post; orders = O; figs = f }) x (lenAt (pre ++ free n ∷ post) (byteOf x)) z) (byteOf x + 4)
   unfolding tookM
@@ -97,7 +99,8 @@ module _ {S : Type 0} {op : Ops S Figures} {most places : ℕ} (E : Edition op m
         let g = free-at 0 (m .cs) (slot x (r .0)) (r .1) in
         subst (λ cs. Sh s (record { cs = cs; orders = m .orders; figs = m .figs })
         → Arrived
-        (emptied op (op .setRest (takeChunk op s (x - 6) (lengthAt op s x) z) (counted (op .rest s) (portion (lengthAt op s x) z) (byteOf x + portion (lengthAt op s x) z)))
+        (emptied op (op .setRest (takeChunk op s (x - 6) (lengthAt op s x) z)
+        (counted (op .rest s) (portion (lengthAt op s x) z) (byteOf x + portion (lengthAt op s x) z)))
         (x - 6) (portion (lengthAt op s x) z))
         (tookM (record { cs = cs; orders = m .orders; figs = m .figs }) x (lenAt cs (byteOf x)) z) (byteOf x + 4))
         (sym (g .is)) (λ w. took-arrives s (g .pre) (r .0) (g .post) (m .orders) (m .figs) x z z16 z8 (g .named) w) h

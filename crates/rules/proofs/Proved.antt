@@ -108,8 +108,11 @@ module _ {W : Width} (E : Lawful W) (most places : ℕ) (f : most + 6 ≤ W .lim
   unfolding make
   making ws = go (acceptedᵇ most (length ws)) refl
     where
-      go : (t : Bool) → acceptedᵇ most (length ws) ≡ t → Made ws (pick t (says 0 0 0 (oneChunk (ops W) (fresh ws) (4 * (length ws - 1)))) (says 6 0 0 (empty ws)))
-      go true e = ((λ q. accepted-true most (length ws) e, λ a. refl), λ q. made-shows E most places f ws (accepted-true most (length ws) e), λ q. absurd (q refl))
+      go : (t : Bool) → acceptedᵇ most (length ws) ≡ t
+          → Made ws (pick t (says 0 0 0 (oneChunk (ops W) (fresh ws) (4 * (length ws - 1)))) (says 6 0 0 (empty ws)))
+      go true e =
+          let a = accepted-true most (length ws) e in
+          ((λ q. a, λ b. refl), λ q. made-shows E most places f ws a, λ q. absurd (q refl))
       go false e = (
         (λ q. absurd (let u : _≡_ {A = ℕ} 6 0 = q in omega arith), λ a. absurd (no (sym e ∙ true-accepted most (length ws) a))),
         λ q. absurd (let u : _≡_ {A = ℕ} 6 0 = q in omega arith),

@@ -104,12 +104,14 @@ module _ {S : Type 0} {op : Ops S Figures} {most places : ℕ} (E : Edition op m
   -- TWO RUNS
   pub runs-agree : (es fs : List (Event Request)) (s t : S) (m : Model) → requests es ≡ requests fs → Sh s m → Sh t m → Allowed (acts op most places) es s
       → Allowed (acts op most places) fs t
-      → (answers (acts op most places) es s ≡ answers (acts op most places) fs t) × Same op most places (run (acts op most places) es s) (run (acts op most places) fs t)
+      → (answers (acts op most places) es s ≡ answers (acts op most places) fs t)
+      × Same op most places (run (acts op most places) es s) (run (acts op most places) fs t)
   unfolding laws
   runs-agree = two-runs laws
 
   pub run-follows : (es : List (Event Request)) (s : S) (m : Model) → Sh s m → Allowed (acts op most places) es s
-      → (answers (acts op most places) es s ≡ replies (machine places) (requests es) m) × Sh (run (acts op most places) es s) (steps (machine places) (requests es) m)
+      → (answers (acts op most places) es s ≡ replies (machine places) (requests es) m)
+      × Sh (run (acts op most places) es s) (steps (machine places) (requests es) m)
   unfolding laws
   run-follows es s m h a = (run-answers laws es s m h a, run-abs laws es s m h a)
 
@@ -133,7 +135,8 @@ module _ {S : Type 0} {op : Ops S Figures} {most places : ℕ} (E : Edition op m
       let k = portion-least 16 (lengthAt op s x) z (omega arith) z16 in
       let j = portion-le (lengthAt op s x) z in
       emptied-out (L E s m h) (op .setRest (takeChunk op s (x - 6) (lengthAt op s x) z) r) (x - 6) (portion (lengthAt op s x) z) i (omega arith)
-      (past-emptied ((0 + total pre) / 4) ((0 + total pre + n) / 4) i (x - 6) (portion (lengthAt op s x) z) (omega arith) (omega arith) (payload-out pre n post i p))
+      (past-emptied ((0 + total pre) / 4) ((0 + total pre + n) / 4) i (x - 6) (portion (lengthAt op s x) z) (omega arith) (omega arith)
+      (payload-out pre n post i p))
       ∙ L E s m h .word-setRest (takeChunk op s (x - 6) (lengthAt op s x) z) r i
       ∙ rw (take-words op s (x - 6) (lengthAt op s x) z (omega arith), size-at (L E s m h) classOf class-below s O pre n post x e w, byte-at pre x lp e)
       (take-keeps (L E s m h) classOf class-below pre post (calm-left pre n post (h .calm)) s O n z i z16 z8 w
@@ -212,13 +215,15 @@ module _ {S : Type 0} {op : Ops S Figures} {most places : ℕ} (E : Edition op m
             rw (choose-cached E s m h (roundedOf size))
             (served (choose (sizeM m) (roundedOf size) (m .figs .cached)) (choose-picked (sizeM m) (roundedOf size) (m .figs .cached)))
 
-    settled-keeps : (v : ℕ) (ks : List ℕ) → ((x : ℕ) → Mem x ks → (6 ≤ x) × (0 < usedAt (m .cs) (byteOf x))) → Payload (m .cs) i → Payload (settledM places m v ks .cs) i
+    settled-keeps : (v : ℕ) (ks : List ℕ) → ((x : ℕ) → Mem x ks → (6 ≤ x) × (0 < usedAt (m .cs) (byteOf x))) → Payload (m .cs) i
+        → Payload (settledM places m v ks .cs) i
         → op .word (settled op places s v ks) i ≡ op .word s i
     unfolding settled
     settled-keeps v [] us p p′ = refl
     settled-keeps v (k ∷ ks) us p p′ = go (leb (length (k ∷ ks)) places) p′
       where
-        go : (t : Bool) → Payload ((pick t (record { cs = m .cs; orders = m .orders; figs = withCached (m .figs) v (k ∷ ks) }) (gaveM m v ks (byteOf k) (sizeM m k))) .cs) i
+        go : (t : Bool)
+            → Payload ((pick t (record { cs = m .cs; orders = m .orders; figs = withCached (m .figs) v (k ∷ ks) }) (gaveM m v ks (byteOf k) (sizeM m k))) .cs) i
             → op .word (pick t (op .setRest s (withCached (op .rest s) v (k ∷ ks))) (letGo op s v k ks)) i ≡ op .word s i
         go true y = L E s m h .word-setRest s (withCached (op .rest s) v (k ∷ ks)) i
         go false y = let u = us k (List·Memᴰ·head refl) in gave-keeps E s m h i k v ks (released (op .rest s) v ks (lengthAt op s k)) (u .0) (u .1) p y
@@ -228,7 +233,8 @@ module _ {S : Type 0} {op : Ops S Figures} {most places : ℕ} (E : Edition op m
     back-keeps p a b = rw (true-sound E s (m, h), live-same E s m h p, h .figs) (go (eqb (liveM m p) 0) refl b)
       where
         go : (t : Bool) → eqb (liveM m p) 0 ≡ t
-            → Payload ((pick t (says 4 0 0 m) (says 0 0 0 (settledM places m (m .figs .inUse - liveM m p) (m .figs .cached ++ nameOf (p - 4) ∷ [])))) .after .cs) i
+            → Payload ((pick t (says 4 0 0 m) (says 0 0 0
+            (settledM places m (m .figs .inUse - liveM m p) (m .figs .cached ++ nameOf (p - 4) ∷ [])))) .after .cs) i
             → op .word ((pick t (says 4 0 0 s) (says 0 0 0
             (settled op places s (m .figs .inUse - liveM m p) (m .figs .cached ++ nameOf (p - 4) ∷ [])))) .after) i ≡ op .word s i
         go true e y = refl

@@ -95,7 +95,8 @@ liveM m p = pick (leb 4 p) (pick (listed (nameOf (p - 4)) (m .figs .cached)) 0 (
 abbrev pub settledM : ℕ → Model → ℕ → List ℕ → Model
 settledM places m i [] = m
 settledM places m i (k ∷ ks) =
-    pick (leb (length (k ∷ ks)) places) (record { cs = m .cs; orders = m .orders; figs = withCached (m .figs) i (k ∷ ks) }) (gaveM m i ks (byteOf k) (sizeM m k))
+    let more : Model = record { cs = m .cs; orders = m .orders; figs = withCached (m .figs) i (k ∷ ks) } in
+    pick (leb (length (k ∷ ks)) places) more (gaveM m i ks (byteOf k) (sizeM m k))
 
 -- payload offset p given back
 unfoldable pub takeBackM : ℕ → Model → ℕ → Outcome Model
