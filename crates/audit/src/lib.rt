@@ -1,17 +1,18 @@
-// The audit: whether a record and its words are sound (document 01, "Sound"), the test that answer 5 goes by. It reads any record and any words.
+// The audit: whether a record and its words are sound (document 01, "Sound"), the test behind answer 5. It reads any record and any words.
 //
-// What it costs: the tiling is walked with all tests, and from the first free chunk on once more with one; each class list is followed once both
-// ways, and once more for each window of 2,048 words. A list of none costs two reads. The first walk waits for the cached chunks' words one after the
-// other, one test a used chunk; their lengths are read after it. The stack holds 128 bytes of marks beside the locals, whatever the length.
+// What it costs: the tiling is walked once with all tests, and once more, from the first free chunk on, with a single one; each class list is followed
+// once in both directions, and once more for each window of 2,048 words. An empty list costs two reads. The first walk waits for the words of the
+// cached chunks one after the other, with one test for each used chunk; their lengths are read after it. Besides the locals, the stack holds 128 bytes
+// of marks, whatever the length.
 //
 //     tiling    chunks, from one header to the next
 //     rings     the class lists as mirrored rings
 //     windows   the free chunks of a stretch of words, marked, against the lists
 //
-// Words and bytes are counted in u32, once the length is tested: a usize has 64 bits, two registers on a meter's processor. So the functions below ask
-// for fewer than 2^30 words.
+// Words and bytes are counted in u32 once the length is tested: a usize has 64 bits, two registers on a meter's processor. So the functions below
+// require fewer than 2^30 words.
 //
-// The contract is an equation with the rules' own test. In between stands `proofs/Sound.antt`: the same by words and counts, as the code goes.
+// The contract is an equation with the rules' own test. In between stands `proofs/Sound.antt`: the same condition, in terms of words and counts.
 ghost use mathlib.Core.Path.{_≡_};
 ghost use mathlib.Core.Logic.{_↔_};
 ghost use mathlib.Core.Bool.{Bool, true};
@@ -33,7 +34,7 @@ use tiling::lengths_at;
 use windows::lists_right;
 use words::Link;
 
-// What a record holds beside its links, as the audit reads it.
+// What a record holds besides its links, as the audit reads it.
 pub struct Figures {
     // The heap's length in words.
     pub words: u32,
@@ -48,8 +49,8 @@ pub struct Figures {
     pub fresh: u32,
 }
 
-// The word of a cached chunk's header: where the link names no chunk, the heap's length, and where it names one past the words, the guard. Neither is a
-// used chunk's header.
+// The word of a cached chunk's header: the heap's length if the link names no chunk, the guard if it names one past the words. Neither is a used
+// chunk's header.
 fn cached_word(n: u32, cached: Link) -> u32
     ensures { λ r. ⌜ r ≡ cachedWord n (cached .0) ⌝ }
 {
@@ -75,7 +76,7 @@ fn cached_words(n: u32, c: [Link; 4]) -> [u32; 4]
     ]
 }
 
-// Whether a link is right before others: link 0 before another link 0, or a chunk's link that does not come again.
+// Whether a link can stand before these: link 0 before another link 0, or a chunk's link that does not come again.
 fn front_right(l: Link, others: [Link; 4]) -> bool
     ensures { λ r. ⌜ r ≡ frontRight (l .0) (numbers others) ⌝ }
 {
@@ -111,7 +112,7 @@ fn links_right(c: [Link; 4], places: usize) -> bool
     cache::used_places(c) <= places
 }
 
-// Whether the figures are right for n words whose used chunks sum up to `sum` and end at `top`, `held` bytes of them cached.
+// Whether the figures are right for n words whose used chunks add up to `sum` bytes and end at `top`, with `held` of these bytes cached.
 fn figures_right(f: Figures, n: u32, sum: u32, held: usize, top: u32) -> bool
     ensures { λ (r : Bool). ⌜ (r ≡ true ↔ FiguresFit f n sum held top) ⌝ }
 {

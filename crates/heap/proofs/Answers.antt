@@ -199,7 +199,9 @@ take-rest s w n z = go (leb (z + 12) n)
     marked : State
     marked = markUsed base (unlink base s (w + 6)) w (portion n z)
 
-    go : (t : Bool) → pick t (link base (markFree base marked (rightOf w z) (n - z)) (classOf (n - z)) (rightOf w z + 6)) (setLeft base marked (rightOf w n)) .rest ≡ s .rest
+    go : (t : Bool)
+        → pick t (link base (markFree base marked (rightOf w z) (n - z)) (classOf (n - z)) (rightOf w z + 6)) (setLeft base marked (rightOf w n)) .rest
+        ≡ s .rest
     go true = refl
     go false = refl
 
@@ -330,19 +332,23 @@ module _ (r : Record) (ws : List ℕ) (p : ℕ) where
   unfolding live
   live-low h = rw (lt-leb _ _ h) refl
 
-  -- its link stands in a place of the cache
+  -- its link is among the cached chunks' exactly where it stands in a place of the cache
+  among : 4 ≤ p → listed ((p - 4) / 4 + 6) (cachedOf (numbers (r .cached))) ≡ listed ((p - 4) / 4 + 6) (numbers (r .cached))
+  among h = listed-cached ((p - 4) / 4 + 6) (numbers (r .cached)) (λ q. omega arith)
+
+  -- it does
   pub live-cached : (b : Bool) → 4 ≤ p → b ≡ listed ((p - 4) / 4 + 6) (numbers (r .cached)) → b ≡ true → 0 ≡ live base (seen r ws) p
   unfolding live
   live-cached b h e t =
-      let c : listed ((p - 4) / 4 + 6) (cachedOf (numbers (r .cached))) ≡ true = listed-cached ((p - 4) / 4 + 6) (numbers (r .cached)) (λ q. omega arith) ∙ sym e ∙ t in
+      let c : listed ((p - 4) / 4 + 6) (cachedOf (numbers (r .cached))) ≡ true = among h ∙ sym e ∙ t in
       rw (le-leb _ _ h, c) refl
 
-  -- or in none
+  -- or does not
   pub live-other : (b : Bool) (v : ℕ) → 4 ≤ p → b ≡ listed ((p - 4) / 4 + 6) (numbers (r .cached)) → b ≡ false → v ≡ usedWalk (at ws) (length ws) 0 (p - 4)
       → v ≡ live base (seen r ws) p
   unfolding live
   live-other b v h e t ev =
-      let c : listed ((p - 4) / 4 + 6) (cachedOf (numbers (r .cached))) ≡ false = listed-cached ((p - 4) / 4 + 6) (numbers (r .cached)) (λ q. omega arith) ∙ sym e ∙ t in
+      let c : listed ((p - 4) / 4 + 6) (cachedOf (numbers (r .cached))) ≡ false = among h ∙ sym e ∙ t in
       rw (le-leb _ _ h, c) (ev ∙ used-tile (at ws) (length ws) 0 (p - 4))
 
 -- ---- THE OLDEST CACHED CHUNK, in the first place
@@ -382,9 +388,10 @@ module _ (r : Record) (ws : List ℕ) (used : 0 < usedPlaces (numbers (r .cached
 
 -- ---- TAKEN BACK
 
--- the newest stays beside the others where there are places enough; else the oldest is released
+-- the newest stays with the others if there are places enough; else the oldest is released
 module _ (places : ℕ) (s : State) (u : ℕ) where
-  settled-keep : (ks : List ℕ) (l : ℕ) → length (ks ++ l ∷ []) ≤ places → settled base places s u (ks ++ l ∷ []) ≡ base .setRest s (rules.withCached (s .rest) u (ks ++ l ∷ []))
+  settled-keep : (ks : List ℕ) (l : ℕ) → length (ks ++ l ∷ []) ≤ places
+      → settled base places s u (ks ++ l ∷ []) ≡ base .setRest s (rules.withCached (s .rest) u (ks ++ l ∷ []))
   unfolding settled
   settled-keep [] l h = rw (le-leb _ _ h)
   settled-keep (k ∷ ks) l h = rw (le-leb _ _ h)
@@ -394,8 +401,9 @@ module _ (places : ℕ) (s : State) (u : ℕ) where
   unfolding settled
   settled-let k ks h = rw (lt-leb _ _ h)
 
--- so many places are used
-module _ (places : ℕ) (r : Record) (ws : List ℕ) (u : ℕ) (l : Link) (k : ℕ) (ok : soundAt 4 (seen r ws) ≡ true) (ek : k ≡ usedPlaces (numbers (r .cached))) where
+-- k places are used
+module _ (places : ℕ) (r : Record) (ws : List ℕ) (u : ℕ) (l : Link) (k : ℕ)
+    (ok : soundAt 4 (seen r ws) ≡ true) (ek : k ≡ usedPlaces (numbers (r .cached))) where
   -- the cached chunks, and how many they are
   abbrev kept : List ℕ
   kept = cachedOf (numbers (r .cached))
@@ -411,7 +419,8 @@ module _ (places : ℕ) (r : Record) (ws : List ℕ) (u : ℕ) (l : Link) (k : �
       let n = length-numbers (r .cached) in
       let room : usedPlaces (numbers (r .cached)) < length (numbers (r .cached)) = omega (arith, n, four, few, hk, ek) in
       let new : cachedOf (numbers c) ≡ kept ++ l .0 ∷ [] =
-      ap cachedOf (ec ∙ ap (λ (j : ℕ). set (numbers (r .cached)) j (l .0)) ek) ∙ set-last (numbers (r .cached)) (l .0) (cache-packed r ws ok) (λ z. omega (arith, named, z)) room in
+      ap cachedOf (ec ∙ ap (λ (j : ℕ). set (numbers (r .cached)) j (l .0)) ek)
+      ∙ set-last (numbers (r .cached)) (l .0) (cache-packed r ws ok) (λ z. omega (arith, named, z)) room in
       ap (λ (t : Record). seen t ws) eq ∙ ap (λ (ks : List ℕ). base .setRest (seen r ws) (rules.withCached (figuresOf r) u ks)) new
       ∙ sym (settled-keep places (seen r ws) u kept (l .0) (omega (arith, more, many, hk)))
 
@@ -451,12 +460,13 @@ module _ (places : ℕ) (r : Record) (ws : List ℕ) where
   unfolding handOut
   hand-large size h k = rw (ne-eqb _ _ h, lt-ltb _ _ k) refl
 
-  pub hand-damaged : (size : ℕ) (b : Bool) → (size ≡ 0 → ⊥) → size ≤ 4294967284 → b ≡ soundAt places (seen r ws) → b ≡ false → outcome Damaged (seen r ws) ≡ hand base 65529 places (seen r ws) size
+  pub hand-damaged : (size : ℕ) (b : Bool) → (size ≡ 0 → ⊥) → size ≤ 4294967284 → b ≡ soundAt places (seen r ws) → b ≡ false
+      → outcome Damaged (seen r ws) ≡ hand base 65529 places (seen r ws) size
   unfolding handOut
   hand-damaged size b h k e f = rw (ne-eqb _ _ h, le-ltb _ _ k, sym e ∙ f) refl
 
-  pub hand-served : (size z v : ℕ) (b : Bool) (o : Outcome State) → (size ≡ 0 → ⊥) → size ≤ 4294967284 → b ≡ soundAt places (seen r ws) → b ≡ true → v ≡ roundedOf size → z ≡ v
-      → o ≡ serve base (seen r ws) z → o ≡ hand base 65529 places (seen r ws) size
+  pub hand-served : (size z v : ℕ) (b : Bool) (o : Outcome State) → (size ≡ 0 → ⊥) → size ≤ 4294967284 → b ≡ soundAt places (seen r ws) → b ≡ true
+      → v ≡ roundedOf size → z ≡ v → o ≡ serve base (seen r ws) z → o ≡ hand base 65529 places (seen r ws) size
   unfolding handOut
   hand-served size z v b o h k e f ev ez eo = rw (ne-eqb _ _ h, le-ltb _ _ k, sym e ∙ f, ← ev, ← ez) eo
 
@@ -464,18 +474,21 @@ module _ (places : ℕ) (r : Record) (ws : List ℕ) where
   unfolding takeBack
   back-damaged p b e f = rw (sym e ∙ f) refl
 
-  pub back-dead : (p n : ℕ) (b : Bool) → b ≡ soundAt places (seen r ws) → b ≡ true → n ≡ live base (seen r ws) p → n ≡ 0 → outcome NotLive (seen r ws) ≡ back base 65529 places (seen r ws) p
+  pub back-dead : (p n : ℕ) (b : Bool) → b ≡ soundAt places (seen r ws) → b ≡ true → n ≡ live base (seen r ws) p → n ≡ 0
+      → outcome NotLive (seen r ws) ≡ back base 65529 places (seen r ws) p
   unfolding takeBack
   back-dead p n b e f en z = rw (sym e ∙ f, eq-eqb _ _ (sym en ∙ z)) refl
 
-  pub live-name : (p n i l : ℕ) (b : Bool) → b ≡ soundAt places (seen r ws) → b ≡ true → n ≡ live base (seen r ws) p → (n ≡ 0 → ⊥) → i ≡ payloads .word p → l ≡ heldName links i → l ≡ nameOf (p - 4)
+  pub live-name : (p n i l : ℕ) (b : Bool) → b ≡ soundAt places (seen r ws) → b ≡ true → n ≡ live base (seen r ws) p → (n ≡ 0 → ⊥)
+      → i ≡ payloads .word p → l ≡ heldName links i → l ≡ nameOf (p - 4)
   live-name p n i l b e f en d ei el =
       let q = live-fitsᵇ (ours places) (seen r ws) (sym e ∙ f) p (λ k. d (en ∙ k)) in
       let a = figures-fitᵇ (ours places) (seen r ws) (sym e ∙ f) .accepted in
       let u = q .inside in
       omega arith
 
-  pub back-done : (q : Record) (ws1 : List ℕ) (p n u l m : ℕ) (b : Bool) → m ≡ places → b ≡ soundAt places (seen r ws) → b ≡ true → n ≡ live base (seen r ws) p → (n ≡ 0 → ⊥) → u ≡ r .«in_use» - n → l ≡ nameOf (p - 4)
+  pub back-done : (q : Record) (ws1 : List ℕ) (p n u l m : ℕ) (b : Bool) → m ≡ places → b ≡ soundAt places (seen r ws) → b ≡ true
+      → n ≡ live base (seen r ws) p → (n ≡ 0 → ⊥) → u ≡ r .«in_use» - n → l ≡ nameOf (p - 4)
       → seen q ws1 ≡ settled base m (seen r ws) u (cachedOf (numbers (r .cached)) ++ l ∷ []) → says 0 0 0 (seen q ws1) ≡ back base 65529 places (seen r ws) p
   unfolding takeBack
   back-done q ws1 p n u l m b em e f en d eu el eq =
@@ -484,7 +497,8 @@ module _ (places : ℕ) (r : Record) (ws : List ℕ) where
       rw (sym e ∙ f, ne-eqb _ _ d′) (ap (says 0 0 0) (eq ∙ rw (em, el, h) refl))
 
 -- what a kind's audit passed may be served
-pub rounded-served : (k : Kind) (r : Record) (ws : List ℕ) (size v : ℕ) (b : Bool) → b ≡ soundAt (placesOf k) (seen r ws) → b ≡ true → v ≡ roundedOf size → Served (seen r ws) v
+pub rounded-served : (k : Kind) (r : Record) (ws : List ℕ) (size v : ℕ) (b : Bool)
+    → b ≡ soundAt (placesOf k) (seen r ws) → b ≡ true → v ≡ roundedOf size → Served (seen r ws) v
 rounded-served k r ws size v b e f ev = record { sound = sound-four k (seen r ws) b e f; least = omega arith; eights = ap (λ (k : ℕ). k % 8) ev ∙ eights-of }
   where
     eights-of : roundedOf size % 8 ≡ 0
