@@ -2,11 +2,14 @@
 //
 // What it costs: the tiling is walked with all tests, and from the first free chunk on once more with one; each class list is followed once both
 // ways, and once more for each window of 2,048 words. A list of none costs two reads. The first walk waits for the cached chunks' words one after the
-// other, one test a used chunk. The stack holds 128 bytes of marks beside the locals, whatever the length.
+// other, one test a used chunk; their lengths are read after it. The stack holds 128 bytes of marks beside the locals, whatever the length.
 //
 //     tiling    chunks, from one header to the next
 //     rings     the class lists as mirrored rings
 //     windows   the free chunks of a stretch of words, marked, against the lists
+//
+// Words and bytes are counted in u32, once the length is tested: a usize has 64 bits, two registers on a meter's processor. So the functions below ask
+// for fewer than 2^30 words.
 //
 // The contract is an equation with the rules' own test. In between stands `proofs/Sound.antt`: the same by words and counts, as the code goes.
 ghost use mathlib.Core.Path.{_≡_};
@@ -26,6 +29,7 @@ mod windows;
 
 use rings::rings_right;
 use tiling::count_chunks;
+use tiling::lengths_at;
 use windows::lists_right;
 use words::Link;
 
@@ -46,18 +50,21 @@ pub struct Figures {
 
 // The word of a cached chunk's header: where the link names no chunk, the heap's length, and where it names one past the words, the guard. Neither is a
 // used chunk's header.
-fn cached_word(n: usize, cached: Link) -> usize
+fn cached_word(n: u32, cached: Link) -> u32
     ensures { λ r. ⌜ r ≡ cachedWord n (cached .0) ⌝ }
 {
     if cached.0 < 6 {
         return n;
     }
-    let w = cached.0 as usize - 6;
-    if w < n { w } else { words::monus(n, 1) }
+    let w = cached.0 as u32 - 6;
+    if w < n {
+        return w;
+    }
+    words::monus(n as usize, 1) as u32
 }
 
 // The words of the cached chunks' headers.
-fn cached_words(n: usize, c: [Link; 4]) -> [usize; 4]
+fn cached_words(n: u32, c: [Link; 4]) -> [u32; 4]
     ensures { λ r. ⌜ r ≡ wordsOf n (numbers c) ⌝ }
 {
     [
@@ -105,10 +112,10 @@ fn links_right(c: [Link; 4], places: usize) -> bool
 }
 
 // Whether the figures are right for n words whose used chunks sum up to `sum` and end at `top`, `held` bytes of them cached.
-fn figures_right(f: Figures, n: usize, sum: usize, held: usize, top: usize) -> bool
+fn figures_right(f: Figures, n: u32, sum: u32, held: usize, top: u32) -> bool
     ensures { λ (r : Bool). ⌜ (r ≡ true ↔ FiguresFit f n sum held top) ⌝ }
 {
-    if f.words as usize != n {
+    if f.words != n {
         return false;
     }
     if n < 5 {
@@ -120,7 +127,7 @@ fn figures_right(f: Figures, n: usize, sum: usize, held: usize, top: usize) -> b
     if n % 2 == 0 {
         return false;
     }
-    if f.committed as usize != sum {
+    if f.committed != sum {
         return false;
     }
     if f.committed < f.in_use {
@@ -135,7 +142,7 @@ fn figures_right(f: Figures, n: usize, sum: usize, held: usize, top: usize) -> b
     if f.high < f.peak {
         return false;
     }
-    let high = f.high as usize;
+    let high = f.high;
     if n * 4 - 4 < high {
         return false;
     }
@@ -163,16 +170,21 @@ pub fn audit(
     if !links {
         return false;
     }
-    let ws = cached_words(heap.len(), cached);
+    if 65529 < heap.len() {
+        return false;
+    }
+    let n = heap.len() as u32;
+    let ws = cached_words(n, cached);
     let t = count_chunks(heap, ws);
     let whole = t.whole;
     if !whole {
         return false;
     }
-    if t.next != heap.len() {
+    if t.next != n {
         return false;
     }
-    let right = figures_right(figures, heap.len(), t.sum, t.held, t.top);
+    let held = lengths_at(heap, ws);
+    let right = figures_right(figures, n, t.sum, held, t.top);
     if !right {
         return false;
     }

@@ -9,7 +9,7 @@ use Rattle.rules.specs.Making.{State}
 use Rattle.rules.specs.Machine as rule
 use Rattle.rules.specs.Test.{soundᵇ}
 use Rattle.heap.specs.declared.calls.Answer.{Answer}
-use Rattle.heap.specs.declared.calls.Answer.the-variants.{Done, ZeroSize, TooLarge, NoFit, NotLive, Damaged, BadLength}
+use Rattle.heap.specs.declared.calls.Answer.the-variants.{Done, ZeroSize, TooLarge, NoFit, NotLive, Damaged, BadLength, NeverFits}
 use Rattle.heap.specs.Seen.{base}
 
 -- of each case its number; what is returned, the payload's offset for a handout, 0 otherwise; and how many free chunks were compared with the rounded size
@@ -21,6 +21,7 @@ said (NoFit c) = record { number = 3; value = 0; compared = c }
 said NotLive = record { number = 4; value = 0; compared = 0 }
 said Damaged = record { number = 5; value = 0; compared = 0 }
 said BadLength = record { number = 6; value = 0; compared = 0 }
+said NeverFits = record { number = 8; value = 0; compared = 0 }
 
 -- its number
 abbrev pub number : Answer → ℕ

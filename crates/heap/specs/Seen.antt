@@ -23,7 +23,7 @@ base = ops narrow
 abbrev pub cachedIn : Record → List ℕ
 cachedIn r = cachedOf (numbers (r .cached))
 
--- what the record holds beside its links
+-- what the record holds besides its links
 abbrev pub figuresOf : Record → Figures
 figuresOf r =
     record { words = r .words; cached = cachedIn r; inUse = r .«in_use»; committed = r .committed; peak = r .peak; high = r .high; flag = r .fresh }
@@ -94,8 +94,8 @@ noneCached = replicate 4 (link 0)
 
 -- the empty record, and the record of a heap of n words whose lists are empty
 abbrev pub emptyRecord : Record
-emptyRecord =
-    record { prev = replicate 6 (link 0); next = replicate 6 (link 0); cached = noneCached; words = 0; «in_use» = 0; committed = 0; peak = 0; high = 0; fresh = 0 }
+emptyRecord = let none = replicate 6 (link 0) in
+    record { prev = none; next = none; cached = noneCached; words = 0; «in_use» = 0; committed = 0; peak = 0; high = 0; fresh = 0 }
 
 abbrev pub freshRecord : ℕ → Record
 freshRecord n =

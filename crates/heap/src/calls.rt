@@ -6,7 +6,7 @@ ghost use mathlib.Core.Bool.{true};
 ghost use mathlib.Core.List.{[], _∷_, _++_};
 ghost use Prim.Native.Nat.{_-_, _*_, _≤_, _<_, _%_};
 ghost use lib.ListN.{length};
-ghost use Rattle.rules.specs.Rules.{withoutCache, firstFit, took, fromMerged, fromList, serve, settled, live};
+ghost use Rattle.rules.specs.Rules.{never, withoutCache, firstFit, took, fromMerged, fromList, serve, settled, live};
 ghost use Rattle.rules.specs.Steps.{oneChunk};
 ghost use Rattle.heap.specs.Seen.{seen, base, cachedIn};
 ghost use Rattle.heap.specs.Kind.{placesOf};
@@ -26,17 +26,27 @@ pub enum Answer {
     Done(ByteOffset, u32),
     ZeroSize,
     TooLarge,
-    // no fit, and how many free chunks were compared
+    // no fit now, and how many free chunks were compared
     NoFit(u32),
     NotLive,
     Damaged,
     BadLength,
+    // no fit ever: no heap of this length can serve it
+    NeverFits,
 }
 
 // An answer, and the record after the call.
 pub struct Out {
     pub answer: Answer,
     pub rec: Record,
+}
+
+// Whether no heap of so many words can ever serve a rounded size. Thresholds are multiples of 8, so words compare as bytes do.
+fn never(n: usize, z: u32) -> bool
+    requires { ⌜ z % 8 ≡ 0 ⌝ }
+    ensures { λ r. ⌜ r ≡ never n z ⌝ }
+{
+    words::monus(n, 1) < (words::threshold(z) / 4) as usize
 }
 
 impl Record {
@@ -114,6 +124,13 @@ impl Record {
             };
         }
         let z = words::rounded_size(size) as u32;
+        let hopeless = never(heap.len(), z);
+        if hopeless {
+            return Out {
+                answer: Answer::NeverFits,
+                rec: self,
+            };
+        }
         self.serve(heap, z)
     }
 

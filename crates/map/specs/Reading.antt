@@ -55,7 +55,7 @@ module _ (most places : ℕ) where
   lineRead p k more Bad = bad k
   lineRead p k more (Good r) = let q = before r (more (past p r)) in pick (followsᵇ most places p r) q (bad k)
 
-  -- the bytes bs from line k on, in at most so many lines
+  -- the bytes bs from line k on, as at most this many lines
   unfoldable pub readFrom : ℕ → Place → ℕ → List ℕ → Read
   readFrom zero p k bs = rows []
   readFrom (suc fuel) p k bs =

@@ -35,7 +35,7 @@ goingOn s o = pick (eqb (o .number) 6) (says 6 0 0 s) o
 unfoldable pub making : State → ℕ → Outcome State
 making s n = pick (leb n (length (s .words))) (goingOn s (onFirst n (λ t. make narrow 65529 (t .words)) s)) (says 6 0 0 s)
 
--- a request, with so many cache places: making, or one of the rules' calls on the heap in use
+-- a request, with this many cache places: making, or one of the rules' calls on the heap in use
 abbrev pub asked : ℕ → State → Request → Outcome State
 asked places s (Make n) = making s n
 asked places s (HandOut size) = onFirst (s .rest .words) (λ t. hand base 65529 places t size) s
