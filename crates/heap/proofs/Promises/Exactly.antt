@@ -118,7 +118,8 @@ module _ (places : ℕ) where
       → Calls places k r ws o vs
       → Iff (number (o .answer) ≡ 5) (Allowable k × (SoundIn places r ws → ⊥))
   five-exactly r ws vs k o e =
-      subst (λ (x : Outcome State). Iff (x .number ≡ 5) (Allowable k × (SoundIn places r ws → ⊥))) (sym (outcome-call places r ws vs k o e)) (told .five k (seen r ws))
+      subst (λ (x : Outcome State). Iff (x .number ≡ 5) (Allowable k × (SoundIn places r ws → ⊥))) (sym (outcome-call places r ws vs k o e))
+      (told .five k (seen r ws))
 
   -- the numbers there are
   pub answers-possible : (r : Record) (ws vs : List ℕ) (k : Request) (o : Out)

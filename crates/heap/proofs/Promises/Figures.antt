@@ -87,7 +87,8 @@ module _ (places : ℕ) where
       subst (λ (x : Outcome State). x .number ≡ 0
       → (x .compared ≡ 0 → HeldOnly (figuresOf r) (x .after .rest) (r .«in_use» + liveAt base 65529 places (x .after) (x .value)))
       × (0 < x .compared
-      → CountedUp (figuresOf r) (x .after .rest) (liveAt base 65529 places (x .after) (x .value)) (x .value - 4 + liveAt base 65529 places (x .after) (x .value))
+      → CountedUp (figuresOf r) (x .after .rest) (liveAt base 65529 places (x .after) (x .value))
+      (x .value - 4 + liveAt base 65529 places (x .after) (x .value))
       ⊎ CountedUp (withoutCacheF (figuresOf r)) (x .after .rest) (liveAt base 65529 places (x .after) (x .value))
       (x .value - 4 + liveAt base 65529 places (x .after) (x .value))))
       (sym e) (told .handedFigures (seen r ws) n) z
