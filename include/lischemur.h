@@ -28,8 +28,8 @@
  *
  * What the library calls but does not contain, since every C program for the processor links it anyway (-lc -lgcc, say):
  *   64 bits    memset, on x86-64 and on 64-bit Arm
- *   Cortex-M   __aeabi_memcpy, __aeabi_memclr4 and __aeabi_memclr8; for the map __aeabi_uldivmod; on a Cortex-M0+ also
- *              __aeabi_lmul and __clzsi2
+ *   Cortex-M   __aeabi_memcpy and __aeabi_memclr4; for the map __aeabi_uldivmod; on a Cortex-M0+ also __aeabi_lmul and
+ *              __clzsi2
  *   RISC-V     memcpy and memset; for the map __udivdi3
  *
  * Header and library belong together. What crosses the door has a layout with a number, LISCHEMUR_LAYOUT, and the library's
@@ -67,7 +67,7 @@ extern "C" {
 #endif
 
 /* The version, and the number of the layout of what crosses the door, which is the version's second number too. */
-#define LISCHEMUR_VERSION "0.4.0"
+#define LISCHEMUR_VERSION "0.4.1"
 #define LISCHEMUR_LAYOUT 4
 
 /* How the library's names end on a microcontroller: in the architecture that it is compiled for (meter/parts has the list). The compiler
@@ -154,7 +154,7 @@ enum lischemur_number {
     LISCHEMUR_DONE = 0,       /* the value is the payload's offset for a handout, the number of lines for a map, else 0 */
     LISCHEMUR_ZERO_SIZE = 1,  /* zero bytes were asked for */
     LISCHEMUR_TOO_LARGE = 2,  /* more than LISCHEMUR_MOST_SIZE bytes were asked for */
-    LISCHEMUR_NO_FIT = 3,     /* no cached chunk serves and no listed one; a listed one has to reach LISCHEMUR_SERVES(size) */
+    LISCHEMUR_NO_FIT = 3,     /* no cached chunk serves and no free one reaches LISCHEMUR_SERVES(size), not even with the cache emptied */
     LISCHEMUR_NOT_LIVE = 4,   /* no payload that is handed out starts at this offset: a second free, say */
     LISCHEMUR_DAMAGED = 5,    /* record and words are not sound together, or no heap was made */
     LISCHEMUR_BAD_LENGTH = 6, /* from making: not an accepted number of words (odd, 5 to 65,529) */
@@ -184,7 +184,7 @@ typedef struct lischemur_record {
 typedef struct lischemur_reply {
     uint32_t number;   /* an enum lischemur_number */
     uint32_t value;    /* the payload's offset for a handout that is done, the number of lines for a map that is, else 0 */
-    uint32_t compared; /* how many free chunks were compared with the size */
+    uint32_t compared; /* how many free chunks were compared with the size, in both searches where there were two */
 } lischemur_reply;
 
 /* What the mark says. */
@@ -203,7 +203,8 @@ lischemur_reply lischemur_make(lischemur_record *record, uint32_t *heap, uint64_
 
 /*
  * Hands out a payload of at least `size` bytes, or replies 1, 2, 5 or 3, tested in that order. Every word of the payload is 0, up
- * to its chunk's end.
+ * to its chunk's end. Before it replies 3 it empties the cache: every cached chunk is released and merged with its free neighbours, and
+ * the lists are searched once more. If that does not help either, the cache and every word are as they were.
  */
 lischemur_reply lischemur_hand_out(lischemur_record *record, uint32_t *heap, uint64_t heap_words, uint32_t size);
 
@@ -260,7 +261,8 @@ static inline uint32_t lischemur_offset(const uint32_t *heap, const void *payloa
     return offset < UINT32_MAX ? (uint32_t)offset : UINT32_MAX;
 }
 
-/* The largest size that a free chunk of this length serves, as the map shows it; 0 if it serves none. */
+/* The largest size that a free chunk of this length serves, as the map shows it; 0 if it serves none. So does a run of touching chunks that are
+   free or cached, by its length in all: the cache is emptied before a 3. */
 static inline uint32_t lischemur_served(uint32_t chunk)
 {
     uint32_t power = 512;

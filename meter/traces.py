@@ -8,7 +8,8 @@
     damaged    histories on small heaps with damage to record and words between the requests, and the audit's answer and a sum over the whole
                state after each: those of tests/c/compare.py, in lines that the board reads
     crowd      a heap with so many used chunks, then with every other one free: how a call's time grows
-    turns      every kind of call once, on heaps in three states: those of oracle/between.rs, which looks whether cache or lists serve them
+    emptied    the same heap asked for more than it has, with an empty cache and with four cached chunks, and for what an emptied cache serves
+    turns      every kind of call once, on heaps in three states; the model says whether each does what it is called
 """
 
 import importlib.util
@@ -46,7 +47,7 @@ WHOLE = (
 000000000000000000
 020000000000000000
 010000000000000000
-030000000000000000
+000000000400000001
 """.split(),
 )
 
@@ -204,31 +205,80 @@ def crowd(chunks, every_other):
     return b"".join(lines)
 
 
+def emptied(chunks):
+    """Fill a heap with so many small chunks; a handout that is refused; then four of them cached, the last beside the rest; the last three calls audit, hand
+    out as much again, which is refused, and hand out what the rest and the chunk beside it serve."""
+    lines = [call(MAKE, 0, model.TRACE_WORDS)]
+    lines += [call(HAND_OUT, slot, 12) for slot in range(chunks)]
+    lines += [call(HAND_OUT, chunks, 65_500)]
+    lines += [call(TAKE_BACK, slot, 0) for slot in (0, 2, 4, chunks - 1)]
+    rest = 4 * model.TRACE_WORDS - 4 - 16 * chunks
+    lines += [call(AUDIT, 0, 0), call(HAND_OUT, chunks, 65_500), call(HAND_OUT, chunks, rest + 16 - 4)]
+    return b"".join(lines)
+
+
+class Sound(model.Heap):
+    """A heap that is known to be sound, and gets back only what is live."""
+
+    def sound(self):
+        """It is."""
+        return True
+
+    def live(self, offset):
+        """The chunk of a payload."""
+        return self.chunk(offset // 4 - 1)
+
+
+def look_at(named):
+    """The calls again on the model: each has to do what its name says."""
+    heap, payloads = Sound([0] * model.TRACE_WORDS, CACHE_PLACES), {}
+
+    def frees():
+        return sum(not chunk.used for chunk in heap.chunks())
+
+    for name, line in named:
+        kind, slot, number = int(line[:2], 16), int(line[2:6], 16), int(line[6:], 16)
+        if kind == AUDIT:
+            continue
+        committed, free = heap.record.committed, frees() if name else 0
+        answer = (heap.make, heap.hand_out, heap.take_back)[kind](payloads.pop(slot) if kind == TAKE_BACK else number)
+        payloads[slot] = answer.value
+        fell = heap.record.committed < committed
+        does = {"lists": answer.compared > 0, "cache": answer.compared == 0, "only cached": not fell, "older one merged": fell and frees() <= free} if name else {}
+        if answer.number != model.DONE or name and not does[name.rsplit(", ", 1)[1]]:
+            raise ValueError(f"{name or line}: {answer}")
+    return named
+
+
 def turns(state):
-    """Calls on a heap in a state, each with what it is called in a table, or with nothing if it only leads there."""
+    """Calls on a heap in a state, each with what it is called in a table, or with nothing if it only leads there. The heap has four cache places, and
+    they are full when the audit is called."""
+
+    def take_back(slot):
+        return call(TAKE_BACK, slot, 0)
+
     if state == "small":
-        lead = [call(MAKE, 0, 33), call(HAND_OUT, 0, 12), call(TAKE_BACK, 0, 0)]
-        return [(None, line) for line in lead] + [
+        # of five chunks the first is free, beside the one that is the oldest in the cache once another has been handed out from there
+        lead = [call(MAKE, 0, 33)] + [call(HAND_OUT, slot, 12) for slot in range(5)] + [take_back(slot) for slot in (0, 2, 1, 3, 4)]
+        return look_at([(None, line) for line in lead] + [
             ("audit", call(AUDIT, 0, 0)),
-            ("hand out 20 bytes, lists", call(HAND_OUT, 0, 20)),
-            ("hand out 12 bytes, cache", call(HAND_OUT, 1, 12)),
-            ("take back 20 bytes, only cached", call(TAKE_BACK, 0, 0)),
-            ("take back 12 bytes, older one merged", call(TAKE_BACK, 1, 0)),
-        ]
-    # the last free chunk is parted in two, with a used one between them, so that what is cut off is merged again
-    lead = [call(MAKE, 0, model.TRACE_WORDS)]
-    if state == "fragmented":
-        lead += [call(HAND_OUT, slot, 12) for slot in range(3_940)]
-        lead += [call(TAKE_BACK, slot, 0) for slot in range(0, 3_940, 2)]
-    lead += [call(HAND_OUT, 4_000, 1_100 if state == "fragmented" else 30_000), call(HAND_OUT, 4_001, 20), call(TAKE_BACK, 4_000, 0)]
-    lead += [call(HAND_OUT, 4_000, 12), call(TAKE_BACK, 4_000, 0)]
+            ("hand out 20 bytes, lists", call(HAND_OUT, 5, 20)),
+            ("hand out 12 bytes, cache", call(HAND_OUT, 2, 12)),
+            ("take back 20 bytes, only cached", take_back(5)),
+            ("take back 12 bytes, older one merged", take_back(2)),
+        ])
+    # every other small chunk is free, and four of those between them are cached: each is merged when it is released
+    small = 3_940 if state == "fragmented" else 10
+    lead = [call(MAKE, 0, model.TRACE_WORDS)] + [call(HAND_OUT, slot, 12) for slot in range(small)]
+    lead += [take_back(slot) for slot in (*range(0, small, 2), 1, 3, 5, 7)]
     lines = [(None, line) for line in lead] + [("audit", call(AUDIT, 0, 0))]
-    for size in (540, 12):
+    for size in (20, 540):
         lines += [(f"hand out {size} bytes, lists", call(HAND_OUT, 4_000, size))]
-        lines += [(f"take back {size} bytes, older one merged", call(TAKE_BACK, 4_000, 0))]
-    lines += [(None, call(HAND_OUT, 4_000, 60)), (None, call(TAKE_BACK, 4_000, 0))]
-    lines += [("hand out 60 bytes, cache", call(HAND_OUT, 4_000, 60)), ("take back 60 bytes, only cached", call(TAKE_BACK, 4_000, 0))]
+        lines += [(f"take back {size} bytes, older one merged", take_back(4_000))]
+    # the cached chunk of 544 bytes would serve 60, so it is handed out before
+    lines += [(None, call(HAND_OUT, 4_001, 540)), (None, call(HAND_OUT, 4_000, 60)), (None, take_back(4_000))]
+    lines += [("hand out 60 bytes, cache", call(HAND_OUT, 4_000, 60)), ("take back 60 bytes, only cached", take_back(4_000))]
     if state == "fresh":
         for place in ("lists", "cache"):
-            lines += [(f"hand out 16 KiB, {place}", call(HAND_OUT, 4_000, 16_384)), (None, call(TAKE_BACK, 4_000, 0))]
-    return lines
+            lines += [(f"hand out 16 KiB, {place}", call(HAND_OUT, 4_000, 16_384)), (None, take_back(4_000))]
+    return look_at(lines)

@@ -3,7 +3,7 @@
 //!     between BEFORE AFTER     what the two are called in the table
 //!
 //! oracle/between links both, each with its own beginning to the names of its functions. Prints a table. Both versions get the same
-//! requests on heaps in the same states; a version that serves them otherwise than the row says ends the run with status 1.
+//! requests on heaps in the same states, with one cache place; a version that serves them otherwise than the row says ends the run with status 1.
 
 #[path = "compare-parts/door.rs"]
 mod door;
@@ -28,34 +28,53 @@ const _: () = assert!(
 #[link(name = "before", kind = "static")]
 extern "C" {
     fn before_lischemur_make(record: &mut Record, heap: *mut u32, len: u64, words: u32) -> Reply;
-    fn before_lischemur_hand_out(record: &mut Record, heap: *mut u32, len: u64, size: u32)
-        -> Reply;
-    fn before_lischemur_take_back(record: &mut Record, heap: *mut u32, len: u64, at: u32) -> Reply;
-    fn before_lischemur_audit(record: Record, heap: *const u32, len: u64) -> u32;
+    fn before_lischemur_one_hand_out(
+        record: &mut Record,
+        heap: *mut u32,
+        len: u64,
+        size: u32,
+    ) -> Reply;
+    fn before_lischemur_one_take_back(
+        record: &mut Record,
+        heap: *mut u32,
+        len: u64,
+        at: u32,
+    ) -> Reply;
+    fn before_lischemur_one_audit(record: Record, heap: *const u32, len: u64) -> u32;
 }
 
 #[link(name = "after", kind = "static")]
 extern "C" {
     fn after_lischemur_make(record: &mut Record, heap: *mut u32, len: u64, words: u32) -> Reply;
-    fn after_lischemur_hand_out(record: &mut Record, heap: *mut u32, len: u64, size: u32) -> Reply;
-    fn after_lischemur_take_back(record: &mut Record, heap: *mut u32, len: u64, at: u32) -> Reply;
-    fn after_lischemur_audit(record: Record, heap: *const u32, len: u64) -> u32;
+    fn after_lischemur_one_hand_out(
+        record: &mut Record,
+        heap: *mut u32,
+        len: u64,
+        size: u32,
+    ) -> Reply;
+    fn after_lischemur_one_take_back(
+        record: &mut Record,
+        heap: *mut u32,
+        len: u64,
+        at: u32,
+    ) -> Reply;
+    fn after_lischemur_one_audit(record: Record, heap: *const u32, len: u64) -> u32;
 }
 
 /// The library before the change.
 const BEFORE: Door = Door {
     make: before_lischemur_make,
-    hand_out: before_lischemur_hand_out,
-    take_back: before_lischemur_take_back,
-    audit: before_lischemur_audit,
+    hand_out: before_lischemur_one_hand_out,
+    take_back: before_lischemur_one_take_back,
+    audit: before_lischemur_one_audit,
 };
 
 /// The library after it.
 const AFTER: Door = Door {
     make: after_lischemur_make,
-    hand_out: after_lischemur_hand_out,
-    take_back: after_lischemur_take_back,
-    audit: after_lischemur_audit,
+    hand_out: after_lischemur_one_hand_out,
+    take_back: after_lischemur_one_take_back,
+    audit: after_lischemur_one_audit,
 };
 
 /// The bytes of the large payload.

@@ -38,6 +38,9 @@ use std::time::{Duration, Instant};
 /// Lengths at which something changes: classes, the cache's slack, the least chunk.
 const EDGES: [u32; 12] = [16, 24, 32, 40, 64, 128, 256, 504, 512, 520, 536, 544];
 
+/// Of how many requests at which the Rust and the port part one ends a random history.
+const ONE_IN: u32 = 16;
+
 /// The step that makes a heap of so many words.
 fn making(words: u32) -> Step {
     Step::Make { lent: words, words }
@@ -57,13 +60,15 @@ trait Sides {
     fn kind(&self) -> Kind;
     /// Requests put to both so far.
     fn requests(&self) -> u64;
+    /// Whether the last history ended before a request at which the two part.
+    fn ended(&self) -> bool;
     /// The words of the longest heap that the judge can have.
     fn most_words(&self) -> u32;
 }
 
 /// What the two kinds of sides have by the same names.
 macro_rules! sides {
-    ($sides:ty, $most_words:expr) => {
+    ($sides:ty, $most_words:expr, $ended:expr) => {
         impl Sides for $sides {
             fn play(&mut self, history: &History) -> Result<(), (usize, String)> {
                 self.play(history)
@@ -83,14 +88,17 @@ macro_rules! sides {
             fn requests(&self) -> u64 {
                 self.requests
             }
+            fn ended(&self) -> bool {
+                $ended(self)
+            }
             fn most_words(&self) -> u32 {
                 $most_words
             }
         }
     };
 }
-sides!(Pair, oracle::MOST_WORDS);
-sides!(Beside, 65_529);
+sides!(Pair, oracle::MOST_WORDS, |pair: &Pair| pair.ended);
+sides!(Beside, 65_529, |_| false);
 
 /// What has been compared so far.
 struct Comparison<S: Sides> {
@@ -182,6 +190,7 @@ impl<S: Sides> Comparison<S> {
             words,
             fill: words as u64,
             alone: false,
+            one_in: 1,
             steps: vec![making(words)],
         };
         self.extend(&mut history, sizes, depth);
@@ -190,7 +199,7 @@ impl<S: Sides> Comparison<S> {
     /// Play a history, and every longer one that begins with it.
     fn extend(&mut self, history: &mut History, sizes: &[u32], depth: usize) {
         self.play("every short history", history);
-        if depth == 0 {
+        if depth == 0 || self.pair.ended() {
             return;
         }
         let (live, length) = (self.pair.live_count(), history.steps.len());
@@ -225,6 +234,7 @@ impl<S: Sides> Comparison<S> {
                         words: 65,
                         fill: 7,
                         alone: false,
+                        one_in: 1,
                         steps,
                     },
                 );
@@ -249,6 +259,7 @@ impl<S: Sides> Comparison<S> {
                 words,
                 fill: 1,
                 alone: false,
+                one_in: 1,
                 steps: steps.collect(),
             };
             self.play("every length", &mut history);
@@ -337,7 +348,7 @@ impl<S: Sides> Comparison<S> {
         {
             return Err(format!("a call answers {reply} and leaves no sound heap"));
         }
-        if reply.value != 0 && !is_empty(&after.words, reply.value as usize / 4) {
+        if reply.value != 0 && !after.is_empty(reply.value) {
             return Err(format!("a call answers {reply} and the payload is not 0"));
         }
         Ok(())
@@ -363,6 +374,7 @@ fn short_history() -> History {
         words: 65,
         fill: 3,
         alone: false,
+        one_in: 1,
         steps: steps.to_vec(),
     }
 }
@@ -486,12 +498,6 @@ impl Comparison<Beside> {
     }
 }
 
-/// Whether every word of the payload that begins at an index is 0, up to its chunk's end.
-fn is_empty(words: &[u32], payload: usize) -> bool {
-    let end = payload - 1 + words[payload - 1] as usize / 4;
-    words[payload..end].iter().all(|word| *word == 0)
-}
-
 /// One change of each field of a record.
 fn changes() -> Vec<Box<dyn Fn(&mut Record)>> {
     let mut all: Vec<Box<dyn Fn(&mut Record)>> = vec![
@@ -543,6 +549,7 @@ fn random_history(numbers: &mut Numbers) -> History {
         words,
         fill: numbers.pick(&[0, 1, 1, 2, 3]),
         alone: false,
+        one_in: ONE_IN,
         steps,
     }
 }
@@ -633,11 +640,14 @@ fn main() {
     }
     plain.iter().for_each(Comparison::total);
     println!(
-        "compare: {} requests put to Rust and port, {} of them in {histories} random histories, no difference; {} words compared with the Rust's, \
+        "compare: {} requests put to Rust and port, {} of them in {histories} random histories, no difference; {} histories ended before a request that \
+         the port serves and the Rust refuses, {} such requests left out; {} words compared with the Rust's, \
          {} more, in payloads that it had been left to hand out uncleared, held to 0; {} states audited alike, {} sound and {} damaged, with {} calls \
          on them",
         all.pair.requests,
         all.pair.requests - whole,
+        all.pair.endings,
+        all.pair.left_out,
         all.pair.words_compared,
         all.pair.words_zero,
         all.sound + all.damaged,

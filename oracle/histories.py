@@ -12,8 +12,41 @@ class Fault(Exception):
     """The model contradicts the rules."""
 
 
-def random_history(seed, places, heap=model.Heap):
-    """A random history on a heap with that many cache places: its frames, options, and the lines that the model writes for it."""
+def readings(heap, size):
+    """Whether the Rust serves a request and whether the rules do, by a plain reading of headers and cached chunks: a cached chunk serves; or, for the
+    Rust, a free chunk reaches the threshold, and for the rules a run of touching chunks that are free or cached."""
+    s = model.rounded(size)
+    chunks = list(heap.chunks())
+    cached = [chunk for chunk in chunks if chunk.link in heap.record.cached]
+    from_cache = any(s <= chunk.length <= s + 512 for chunk in cached)
+    free = [chunk.length for chunk in chunks if not chunk.used]
+    return tuple(from_cache or any(length >= model.threshold(s) for length in lengths) for lengths in (free, runs(heap)))
+
+
+def runs(heap):
+    """The lengths of the runs of touching chunks that are free or cached, from left to right: the free chunks once the cache is emptied."""
+    loose = [0]
+    for chunk in heap.chunks():
+        if not chunk.used or chunk.link in heap.record.cached:
+            loose[-1] += chunk.length
+        else:
+            loose.append(0)
+    return [length for length in loose if length]
+
+
+def in_domain(heap, kind, size):
+    """Whether a request is one for bytes that the Rust can be asked."""
+    return kind == 1 and 0 < size <= model.LARGEST_SIZE and heap.sound()
+
+
+def parts(heap, kind, size):
+    """Whether a request is one that the Rust refuses and the rules serve, or the other way round: before it a run against the Rust ends."""
+    return in_domain(heap, kind, size) and len(set(readings(heap, size))) == 2
+
+
+def random_history(seed, places, heap=model.Heap, rust=False):
+    """A random history on a heap with that many cache places: its frames, options, and the lines that the model writes for it. If it is for the Rust, a
+    request at which Rust and rules part is left out."""
     rng = random.Random(seed)
     least, most = rng.choice(((5, 42), (33, 130), (33, 130), (131, 400), (1501, 2500)))
     words = rng.randrange(least, most, 2)
@@ -35,8 +68,11 @@ def random_history(seed, places, heap=model.Heap):
             request = (2, rng.choice(sorted(live)))
         else:
             request = (1, size_of(rng, words))
-        check_fit(trace.heap, *request)
+        if rust and parts(trace.heap, *request):
+            continue
+        fits = fit(trace.heap, *request)
         answer, lines = trace.request(*request)
+        check_fit(fits, request, answer)
         frames.append(b"%02X%08X\n" % request)
         wanted += lines
         if request[0] == 0 and answer.number == 0:
@@ -65,24 +101,34 @@ def size_of(rng, words):
     return rng.randrange(1, 70)
 
 
-def check_fit(heap, kind, size):
-    """Before a handout, in the model: the search finds a chunk exactly when one reaches the threshold."""
-    if kind != 1 or not 0 < size <= model.LARGEST_SIZE or heap.record.words == 0 or type(heap) is not model.Heap:
-        return
+def fit(heap, kind, size):
+    """Before a handout, in the model: whether the rules serve it, and how many chunks a refusal compares: from 512 on the class 5 list and that of
+    the emptied heap. Nothing for other requests, and for models with a slip."""
+    if not in_domain(heap, kind, size) or type(heap) is not model.Heap:
+        return None
     s = model.rounded(size)
-    lengths = [chunk.length for chunk in heap.chunks() if not chunk.used]
+    free = [chunk.length for chunk in heap.chunks() if not chunk.used]
     found, count = heap.search(s)
-    if (found is not None) != any(length >= model.threshold(s) for length in lengths):
-        raise Fault("the search finds a chunk exactly when one reaches the threshold: s = %d, free %s" % (s, lengths))
-    if found is None and count != (sum(length >= 512 for length in lengths) if s >= 512 else 0):
-        raise Fault("a refused search compares the whole class 5 list from 512 on, else nothing: s = %d, free %s" % (s, lengths))
+    if (found is not None) != any(length >= model.threshold(s) for length in free):
+        raise Fault("the search finds a chunk exactly when one reaches the threshold: s = %d, free %s" % (s, free))
     if found is not None and s < 512 and count != 1:
-        raise Fault("a search for less than 512 that finds a chunk compares one: s = %d, free %s" % (s, lengths))
+        raise Fault("a search for less than 512 that finds a chunk compares one: s = %d, free %s" % (s, free))
+    return readings(heap, size)[1], sum(length >= 512 for length in free + runs(heap)) if s >= 512 else 0
 
 
-def every_history(words, sizes, depth, places, heap=model.Heap):
-    """Every history of up to so many requests on a heap of so many words, asks of these sizes and all frees:
-    frames and the lines that the model writes for them."""
+def check_fit(fits, request, answer):
+    """After a handout, in the model: it was refused exactly where headers and cached chunks said so, with the count that they said."""
+    if fits is None:
+        return
+    served, count = fits
+    wanted = model.Answer(model.NO_FIT, 0, count)
+    if (answer.number == model.DONE) != served or (not served and answer != wanted):
+        raise Fault("%s is answered %s, and the headers say served: %s, else %s" % (request, answer, served, wanted))
+
+
+def every_history(words, sizes, depth, places, heap=model.Heap, rust=False):
+    """Every history of up to so many requests on a heap of so many words, asks of these sizes and all frees: frames and the lines that the model
+    writes for them. If they are for the Rust, a history ends before a request at which Rust and rules part."""
     trace = model.Trace(places, words=words, dump=True, heap=heap)
     frames, wanted = [], []
 
@@ -102,7 +148,8 @@ def every_history(words, sizes, depth, places, heap=model.Heap):
         """Play a history and every longer one that begins with it."""
         live = play(history)
         if len(history) < depth:
-            for request in [(1, size) for size in sizes] + [(2, offset) for offset in live]:
+            asks = [(1, size) for size in sizes if not rust or not parts(trace.heap, 1, size)]
+            for request in asks + [(2, offset) for offset in live]:
                 extend(history + [request])
 
     extend([])
@@ -243,6 +290,98 @@ class ClearsWhatIsReleased(model.Heap):
         super().release(chunk)
 
 
+class EmptiesTheCacheOnlyUntilItFits(model.Heap):
+    def empty_cache(self, s):
+        while self.record.cached and self.search(s)[0] is None:
+            self.release(self.chunk(model.word_of(self.record.cached.pop(0))))
+
+
+class EmptiesTheOldestAlone(model.Heap):
+    def empty_cache(self, s):
+        rest = self.record.cached[1:]
+        self.record.cached = self.record.cached[:1]
+        super().empty_cache(s)
+        self.record.cached = rest
+
+
+class EmptiesTheNewestFirst(model.Heap):
+    def empty_cache(self, s):
+        self.record.cached.reverse()
+        super().empty_cache(s)
+
+
+class LeavesTheCacheEmptiedByARefusal(model.Heap):
+    def put_back(self, before):
+        pass
+
+
+class LeavesTheWordsEmptiedByARefusal(model.Heap):
+    def put_back(self, before):
+        self.record = before[0]
+
+
+class PutsBackTagsAlone(model.Heap):
+    """Of the words that a refusal puts back, those inside cached payloads stay as the releases left them."""
+
+    def put_back(self, before):
+        left = list(self.memory)
+        super().put_back(before)
+        for link in self.record.cached:
+            chunk = self.chunk(model.word_of(link))
+            for w in range(chunk.w + 1, chunk.right):
+                self.write(w, left[w])
+
+
+class HandsOutTheMergedChunkWhole(model.Heap):
+    def search_merged(self, s, compared):
+        self.whole = True
+        answer = super().search_merged(s, compared)
+        self.whole = False
+        return answer
+
+    def split(self, chunk, s):
+        return chunk if getattr(self, "whole", False) else super().split(chunk, s)
+
+
+class CountsTheFirstSearchAlone(model.Heap):
+    def search_merged(self, s, compared):
+        answer = super().search_merged(s, 0)
+        return answer._replace(compared=compared)
+
+
+class CountsTheSecondSearchAlone(model.Heap):
+    def search_merged(self, s, compared):
+        return super().search_merged(s, 0)
+
+
+class SearchesOnceWithAnEmptyCache(model.Heap):
+    def search_merged(self, s, compared):
+        return super().search_merged(s, compared) if self.record.cached else model.Answer(model.NO_FIT, 0, compared)
+
+
+class LetsThePeakCountWhatWasEmptied(model.Heap):
+    def search_merged(self, s, compared):
+        before = self.record.committed
+        answer = super().search_merged(s, compared)
+        if answer.number == model.DONE:
+            self.record.peak = max(self.record.peak, before + self.chunk(answer.value // 4 - 1).length)
+        return answer
+
+
+class CountsTheEmptiedAsHeld(model.Heap):
+    def empty_cache(self, s):
+        for link in self.record.cached:
+            self.record.in_use += self.chunk(model.word_of(link)).length
+        super().empty_cache(s)
+
+
+class SaysNoWithTheCacheFull(model.Heap):
+    """The rules before the cache was emptied: what the Rust does."""
+
+    def search_merged(self, s, compared):
+        return model.Answer(model.NO_FIT, 0, compared)
+
+
 class HandsOutTheNewestThatServes(model.Heap):
     def oldest_serving(self, s):
         self.record.cached.reverse()
@@ -321,3 +460,21 @@ SLIPS_WITH_PLACES = (
     CachesOneMore,
     KeepsThemByOffset,
 )
+
+# Slips that show only where the cache is emptied, before which a run against the Rust ends; and for each the smallest history that tells it, as
+# oracle/smallest finds it, on a heap with four cache places: by an answer where there is one, else by a word
+SLIPS_IN_EMPTYING = {
+    SaysNoWithTheCacheFull: "make 131, ask 532",
+    SearchesOnceWithAnEmptyCache: "make 131, ask 532",
+    CountsTheFirstSearchAlone: "make 131, ask 532",
+    CountsTheSecondSearchAlone: "make 131, ask 532",
+    CountsTheEmptiedAsHeld: "make 9, ask 12, free 4, ask 20, ask 12",
+    LetsThePeakCountWhatWasEmptied: "make 9, ask 12, free 4, ask 20, ask 12",
+    LeavesTheCacheEmptiedByARefusal: "make 9, ask 12, free 4, ask 28, ask 12",
+    LeavesTheWordsEmptiedByARefusal: "make 9, ask 12, free 4, ask 28, ask 12",
+    PutsBackTagsAlone: "make 9, ask 12, free 4, ask 28",
+    HandsOutTheMergedChunkWhole: "make 17, ask 12, free 4, ask 28, ask 12",
+    EmptiesTheOldestAlone: "make 13, ask 12, ask 12, free 4, free 20, ask 20",
+    EmptiesTheCacheOnlyUntilItFits: "make 13, ask 12, ask 12, free 20, free 4, ask 20",
+    EmptiesTheNewestFirst: "make 273, ask 508, ask 12, ask 508, free 4, free 532, ask 532",
+}

@@ -14,6 +14,7 @@ Offsets are bytes from the heap's start, `w` is a word index, a link is 0 to 5 f
 w + 6 for the header at word w.
 """
 
+import copy
 import sys
 from dataclasses import dataclass, field
 from itertools import groupby
@@ -268,8 +269,33 @@ class Heap:
             self.clear(cached)
             return Answer(DONE, cached.payload)
         chunk, compared = self.search(s)
+        return self.search_merged(s, compared) if chunk is None else self.take(chunk, s, compared)
+
+    def search_merged(self, s, compared):
+        """With nothing found after so many comparisons: empty the cache and search the lists once more. Nothing again: no fit, and all is as it was."""
+        before = self.kept()
+        self.empty_cache(s)
+        chunk, more = self.search(s)
         if chunk is None:
-            return Answer(NO_FIT, 0, compared)
+            self.put_back(before)
+            return Answer(NO_FIT, 0, compared + more)
+        return self.take(chunk, s, compared + more)
+
+    def empty_cache(self, s):
+        """Release every cached chunk, oldest first, whatever s asks for."""
+        while self.record.cached:
+            self.release(self.chunk(word_of(self.record.cached.pop(0))))
+
+    def kept(self):
+        """Record and words, to be put back."""
+        return copy.deepcopy(self.record), self.memory[: self.lent], set(self.link_words)
+
+    def put_back(self, before):
+        """Record and words as they were."""
+        self.record, self.memory[: self.lent], self.link_words = before
+
+    def take(self, chunk, s, compared):
+        """Take a listed chunk for s, found after so many comparisons, and hand it out."""
         self.unlink(chunk)
         chunk = self.split(chunk, s)
         self.mark_used(chunk)

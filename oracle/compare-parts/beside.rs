@@ -3,7 +3,8 @@
 //!
 //! Compared are the answer with its value and count, the whole record (the sentinels' links, the cached chunks in their order, the counters
 //! and the flag), what the readers say, and in the words every header, the guard, and each free chunk's footer and link word. A payload has to be 0
-//! when it is handed out and what its task wrote until it is freed, and the words behind the heap stay.
+//! when it is handed out and what its task wrote until it is freed, and the words behind the heap stay. After a refused handout every word is as
+//! it was, those inside free and cached chunks too.
 
 use crate::damage::State;
 use crate::numbers::Numbers;
@@ -25,6 +26,8 @@ pub struct Beside {
     held: Vec<(u32, Vec<u32>)>,
     /// The words behind the heap.
     behind: Vec<u32>,
+    /// After a refused handout, the words before it; else none.
+    entry: Vec<u32>,
     /// Requests put to both so far, headers compared, and the most chunks that were cached.
     pub requests: u64,
     pub headers: u64,
@@ -32,7 +35,7 @@ pub struct Beside {
 }
 
 /// An answer as the rules without words have it.
-fn answer(reply: Reply) -> Answer {
+pub fn answer(reply: Reply) -> Answer {
     (reply.number, reply.value, reply.compared)
 }
 
@@ -51,6 +54,7 @@ impl Beside {
             memory: vec![0; MEMORY],
             held: Vec::new(),
             behind: Vec::new(),
+            entry: Vec::new(),
             requests: 0,
             headers: 0,
             most_cached: 0,
@@ -137,6 +141,10 @@ impl Beside {
                 "answers differ: {wanted:?} wanted, {given:?} given"
             ));
         }
+        if !self.entry.is_empty() && self.entry != self.memory[..self.entry.len()] {
+            return Err(format!("{given:?} is answered and a word has changed"));
+        }
+        self.entry.clear();
         self.compare().map_or(Ok(format!("{given:?}")), Err)
     }
 
@@ -160,16 +168,18 @@ impl Beside {
         (wanted, given)
     }
 
-    /// Both answers to asking.
+    /// Both answers to asking. Of a refusal the words before it are kept.
     fn ask(&mut self, size: u32) -> (Answer, Answer) {
-        let (door, mut record) = (self.kind.door, self.record);
-        let given = answer(door.hand_out(&mut record, self.words(), size));
-        self.record = record;
         let wanted = self.plain.hand_out(size);
         if wanted.0 == 0 {
             let words = self.plain.at(wanted.1 - 4).length as usize / 4 - 1;
             self.held.push((wanted.1, vec![0; words]));
+        } else {
+            self.entry = self.words().to_vec();
         }
+        let (door, mut record) = (self.kind.door, self.record);
+        let given = answer(door.hand_out(&mut record, self.words(), size));
+        self.record = record;
         (wanted, given)
     }
 
@@ -252,13 +262,13 @@ impl Beside {
     /// What differs between the port's state and the rules', if anything does.
     pub fn difference(&self) -> Option<String> {
         self.record_difference()
-            .or_else(|| self.tag_difference())
+            .or_else(|| self.plain.tag_difference(&self.memory))
             .or_else(|| self.payload_difference())
     }
 
     /// What differs in the record, or in what the readers say of it.
     fn record_difference(&self) -> Option<String> {
-        let wanted = self.wanted_record();
+        let wanted = self.plain.record();
         let figures = port::figures(&self.record);
         if self.record != wanted {
             let given = self.record;
@@ -268,60 +278,6 @@ impl Beside {
         }
         (figures != (wanted.in_use, wanted.committed, wanted.peak, wanted.high))
             .then(|| format!("the readers say {figures:?} of {wanted:?}"))
-    }
-
-    /// The record that the rules' heap has.
-    fn wanted_record(&self) -> Record {
-        let plain = &self.plain;
-        let mut record = Record {
-            words: plain.words,
-            in_use: plain.in_use,
-            committed: plain.committed,
-            peak: plain.peak,
-            high: plain.high,
-            fresh: plain.fresh as _,
-            ..Record::default()
-        };
-        let cached: Vec<u16> = plain.cache.iter().copied().map(link).collect();
-        record.set_cached(&cached);
-        if plain.words > 0 {
-            for (class, list) in plain.lists.iter().enumerate() {
-                record.next[class] = list.first().copied().map_or(class as u16, link);
-                record.prev[class] = list.last().copied().map_or(class as u16, link);
-            }
-        }
-        record
-    }
-
-    /// What differs in a header, in the guard, or in a free chunk's footer or link word.
-    fn tag_difference(&self) -> Option<String> {
-        let mut left_used = true;
-        let mut tags = Vec::new();
-        for chunk in &self.plain.chunks {
-            let header = chunk.length + 2 * chunk.used as u32 + left_used as u32;
-            tags.push(("header", chunk.start, header));
-            if !chunk.used {
-                tags.push(("footer", chunk.start + chunk.length - 4, chunk.length));
-            }
-            left_used = chunk.used;
-        }
-        if self.plain.words > 0 {
-            tags.push(("guard", 4 * self.plain.words - 4, 2 + left_used as u32));
-        }
-        for (class, list) in self.plain.lists.iter().enumerate() {
-            let links: Vec<u16> = list.iter().copied().map(link).collect();
-            for (at, start) in list.iter().enumerate() {
-                let prev = if at == 0 { class as u16 } else { links[at - 1] };
-                let next = links.get(at + 1).copied().unwrap_or(class as u16);
-                tags.push(("link word", start + 4, (next as u32) << 16 | prev as u32));
-            }
-        }
-        tags.into_iter().find_map(|(what, offset, wanted)| {
-            let given = self.memory[offset as usize / 4];
-            (given != wanted).then(|| {
-                format!("the {what} at {offset} differs: {wanted:#x} wanted, {given:#x} given")
-            })
-        })
     }
 
     /// What differs in a payload that a task holds, or behind the heap.
@@ -336,6 +292,61 @@ impl Beside {
             let place = given.iter().zip(words).position(|(a, b)| a != b)?;
             let (wanted, given) = (words[place], given[place]);
             Some(format!("word {place} of the payload at {payload} differs: {wanted:#x} wanted, {given:#x} given"))
+        })
+    }
+}
+
+impl Plain {
+    /// The record that the heap has.
+    pub fn record(&self) -> Record {
+        let mut record = Record {
+            words: self.words,
+            in_use: self.in_use,
+            committed: self.committed,
+            peak: self.peak,
+            high: self.high,
+            fresh: self.fresh as _,
+            ..Record::default()
+        };
+        let cached: Vec<u16> = self.cache.iter().copied().map(link).collect();
+        record.set_cached(&cached);
+        if self.words > 0 {
+            for (class, list) in self.lists.iter().enumerate() {
+                record.next[class] = list.first().copied().map_or(class as u16, link);
+                record.prev[class] = list.last().copied().map_or(class as u16, link);
+            }
+        }
+        record
+    }
+
+    /// What differs in a header, in the guard, or in a free chunk's footer or link word.
+    pub fn tag_difference(&self, memory: &[u32]) -> Option<String> {
+        let mut left_used = true;
+        let mut tags = Vec::new();
+        for chunk in &self.chunks {
+            let header = chunk.length + 2 * chunk.used as u32 + left_used as u32;
+            tags.push(("header", chunk.start, header));
+            if !chunk.used {
+                tags.push(("footer", chunk.start + chunk.length - 4, chunk.length));
+            }
+            left_used = chunk.used;
+        }
+        if self.words > 0 {
+            tags.push(("guard", 4 * self.words - 4, 2 + left_used as u32));
+        }
+        for (class, list) in self.lists.iter().enumerate() {
+            let links: Vec<u16> = list.iter().copied().map(link).collect();
+            for (at, start) in list.iter().enumerate() {
+                let prev = if at == 0 { class as u16 } else { links[at - 1] };
+                let next = links.get(at + 1).copied().unwrap_or(class as u16);
+                tags.push(("link word", start + 4, (next as u32) << 16 | prev as u32));
+            }
+        }
+        tags.into_iter().find_map(|(what, offset, wanted)| {
+            let given = memory[offset as usize / 4];
+            (given != wanted).then(|| {
+                format!("the {what} at {offset} differs: {wanted:#x} wanted, {given:#x} given")
+            })
         })
     }
 }

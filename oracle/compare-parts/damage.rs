@@ -14,6 +14,13 @@ pub struct State {
 }
 
 impl State {
+    /// Whether every word of the payload at an offset is 0, up to its chunk's end.
+    pub fn is_empty(&self, payload: u32) -> bool {
+        let first = payload as usize / 4;
+        let end = first - 1 + self.words[first - 1] as usize / 4;
+        self.words[first..end].iter().all(|word| *word == 0)
+    }
+
     /// Damage it in one way, drawn at random; which.
     pub fn damage(&mut self, numbers: &mut Numbers) -> &'static str {
         let chunks = tiling(&self.words).unwrap_or_default();

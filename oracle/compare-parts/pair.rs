@@ -10,9 +10,19 @@
 //! The port clears a payload when it hands it out, and the Rust does not. In one half of the histories the task that gets a payload from the
 //! Rust clears it, and every word is compared with the Rust's. In the other half the Rust is left alone: a word of a payload has
 //! to be 0 from its handout until a task writes it or a call makes it a header, footer or link word, and every other word the Rust's.
+//!
+//! The port empties its cache before it says no, and the Rust does not, so there are requests that the port serves and the Rust refuses. Before each
+//! request a plain reading of the Rust's own headers says what either does. Where the two part the request is not compared: as a rule it is left
+//! out, and the history goes on as if it had not been made; one time in so many it is put to the Rust, which must refuse, and to the port alone, on
+//! a copy, which must serve it as plain.rs does, and the history ends before it. Where the reading says that they do not part and their answers
+//! do, that is a difference. Of a request that both refuse the Rust's count is that of its one search: there the port's is compared with plain.rs's,
+//! which is asked everything that the port is.
 
+use crate::audit;
+use crate::beside::answer;
 use crate::damage::State;
 use crate::numbers::Numbers;
+use crate::plain::Plain;
 use crate::port::{self, Kind, Record, Reply};
 use oracle::{can_make, Name, Oracle};
 
@@ -40,19 +50,22 @@ pub enum Step {
     Mark(u32),
 }
 
-/// A whole history: what memory holds before it (zeros for seed 0), whether the Rust's payloads are left as it hands them out, and
-/// its steps.
+/// A whole history: what memory holds before it (zeros for seed 0), whether the Rust's payloads are left as it hands them out, of how many
+/// requests at which Rust and port part one ends it, and its steps.
 #[derive(Clone)]
 pub struct History {
     pub words: u32,
     pub fill: u64,
     pub alone: bool,
+    pub one_in: u32,
     pub steps: Vec<Step>,
 }
 
 /// Both heaps.
 pub struct Pair {
     oracle: Oracle,
+    /// The rules without words, for what the Rust does not say.
+    plain: Plain,
     /// The port's record and memory.
     pub record: Record,
     pub memory: Vec<u32>,
@@ -69,11 +82,17 @@ pub struct Pair {
     made: u32,
     /// The words that are compared.
     watched: u32,
+    /// Of how many requests at which the two part one ends the history, and whether one has.
+    one_in: u32,
+    pub ended: bool,
     /// Requests put to both so far.
     pub requests: u64,
     /// Words compared so far with the Rust's, and words held to 0 because the Rust had been left alone.
     pub words_compared: u64,
     pub words_zero: u64,
+    /// Histories ended before a request at which the two part, and such requests left out.
+    pub endings: u64,
+    pub left_out: u64,
 }
 
 /// The answer of a number alone.
@@ -82,6 +101,15 @@ fn refusal(number: u32) -> Reply {
         number,
         value: 0,
         compared: 0,
+    }
+}
+
+/// An answer of the rules without words as the port's.
+fn reply((number, value, compared): (u32, u32, u32)) -> Reply {
+    Reply {
+        number,
+        value,
+        compared,
     }
 }
 
@@ -100,6 +128,7 @@ impl Pair {
         let words = oracle::MOST_WORDS as usize;
         Pair {
             oracle: Oracle::only(),
+            plain: Plain::new(port::ONE.places),
             record: Record::default(),
             memory: vec![0; words + 8],
             is_link: vec![false; words + 8],
@@ -109,9 +138,13 @@ impl Pair {
             live: Vec::new(),
             made: 0,
             watched: 0,
+            one_in: 1,
+            ended: false,
             requests: 0,
             words_compared: 0,
             words_zero: 0,
+            endings: 0,
+            left_out: 0,
         }
     }
 
@@ -120,6 +153,9 @@ impl Pair {
         self.begin(history);
         for (at, step) in history.steps.iter().enumerate() {
             self.step(*step).map_err(|what| (at, what))?;
+            if self.ended {
+                break;
+            }
         }
         Ok(())
     }
@@ -143,6 +179,9 @@ impl Pair {
                 Ok(answer) => lines += &format!("{told}: {answer}\n"),
                 Err(what) => return lines + &format!("{told}: {what}\n"),
             }
+            if self.ended {
+                break;
+            }
         }
         lines
     }
@@ -150,6 +189,9 @@ impl Pair {
     /// Memory before a history: no heap, and words of a seed.
     pub fn begin(&mut self, history: &History) {
         self.record = Record::default();
+        self.plain = Plain::new(port::ONE.places);
+        self.one_in = history.one_in;
+        self.ended = false;
         self.made = 0;
         self.live.clear();
         self.alone = history.alone;
@@ -202,9 +244,12 @@ impl Pair {
 
     /// Put a step to both and compare: the answer, or what differs.
     pub fn step(&mut self, step: Step) -> Result<String, String> {
-        let both = match step {
+        let (rust, port, rules) = match step {
             Step::Make { lent, words } => self.make(lent, words),
-            Step::Ask(size) => self.ask(size),
+            Step::Ask(size) => match self.reading(size) {
+                Some((rust, port)) if rust != port => return self.part(size),
+                reading => self.ask(size, reading.map(|(rust, _)| rust))?,
+            },
             Step::FreeAt(offset) => self.free(offset),
             Step::Free(_) | Step::Write(..) if self.live.is_empty() => {
                 return Ok("none live".into())
@@ -217,68 +262,167 @@ impl Pair {
             Step::Mark(stacklets) => return self.mark(stacklets),
         };
         self.requests += 1;
-        let (rust, port) = both;
-        if rust != port {
-            return Err(format!("answers differ: {rust} wanted, {port} given"));
+        if rust != port || rules != port {
+            return Err(format!(
+                "answers differ: {rust} wanted, {rules} by the rules without words, {port} given"
+            ));
         }
         self.note_tags();
         self.compare().map_or(Ok(port.to_string()), Err)
     }
 
-    /// Both answers to making. Lengths that are not accepted, or not those of the slice, get 6.
-    fn make(&mut self, lent: u32, words: u32) -> (Reply, Reply) {
+    /// The answers to making: the Rust's, the port's and the rules'. Lengths that are not accepted, or not those of the slice, get 6.
+    fn make(&mut self, lent: u32, words: u32) -> (Reply, Reply, Reply) {
         let slice = &mut self.memory[..lent as usize];
         let port = port::ONE.door.make(&mut self.record, slice, words);
+        let rules = reply(self.plain.make(lent, words));
         if lent != words || !can_make(words) {
-            return (refusal(6), port);
+            return (refusal(6), port, rules);
         }
         self.oracle.make(words);
         self.live.clear();
         self.made = words;
-        (refusal(0), port)
+        (refusal(0), port, rules)
     }
 
-    /// Both answers to asking. 1, 2 and 5 are the rules'; where the Rust is asked, null is 3.
-    fn ask(&mut self, size: u32) -> (Reply, Reply) {
+    /// The answers to asking, or where the Rust is not as its headers were read. 1, 2 and 5 are the rules'; where the Rust is asked, null is 3,
+    /// with the rules' count.
+    fn ask(&mut self, size: u32, read: Option<bool>) -> Result<(Reply, Reply, Reply), String> {
         let slice = &mut self.memory[..self.made as usize];
         let port = port::ONE.door.hand_out(&mut self.record, slice, size);
+        let rules = reply(self.plain.hand_out(size));
         let rust = match size {
             0 => refusal(1),
             _ if size > LARGEST_SIZE => refusal(2),
             _ if self.made == 0 => refusal(5),
-            _ => self.ask_rust(size),
+            _ => self.ask_rust(size, rules.compared),
         };
-        (rust, port)
+        match read {
+            Some(serves) if serves != (rust.number == 0) => Err(format!(
+                "the Rust's headers say served: {serves}; it answers {rust}"
+            )),
+            _ => Ok((rust, port, rules)),
+        }
     }
 
-    /// The Rust's answer to asking.
-    fn ask_rust(&mut self, size: u32) -> Reply {
-        let offset = self.oracle.hand_out(size);
-        if let Some(payload) = offset {
-            self.live.push(payload);
-            self.handed_out(payload);
-        }
+    /// The Rust's answer to asking; of a refusal with this count.
+    fn ask_rust(&mut self, size: u32, refused: u32) -> Reply {
+        let Some(payload) = self.oracle.hand_out(size) else {
+            return Reply {
+                compared: refused,
+                ..refusal(3)
+            };
+        };
+        self.live.push(payload);
+        self.handed_out(payload);
         Reply {
-            number: if offset.is_some() { 0 } else { 3 },
-            value: offset.unwrap_or(0),
+            number: 0,
+            value: payload,
             compared: self.oracle.compared(),
         }
     }
 
-    /// Both answers to freeing. Before a heap is made 5 is the rules', and 4 where nothing live begins at the offset.
-    fn free(&mut self, offset: u32) -> (Reply, Reply) {
+    /// The chunks by the Rust's headers, from left to right: offset, length, and whether it is used.
+    fn chunks(&self) -> Vec<(u32, u32, bool)> {
+        let (mut chunks, mut offset) = (Vec::new(), 0);
+        while offset + 4 < 4 * self.made {
+            let (length, used) = self.oracle.header(offset);
+            chunks.push((offset, length, used));
+            offset += length;
+        }
+        chunks
+    }
+
+    /// Whether the Rust serves a size and whether the port does, by the Rust's headers and its cached chunk; nothing where the Rust is not asked.
+    /// The Rust: its cached chunk serves, or a free chunk reaches the threshold. The port: the cached chunk serves, or a run of touching chunks
+    /// that are free or cached does.
+    fn reading(&self, size: u32) -> Option<(bool, bool)> {
+        if self.made == 0 || size == 0 || size > LARGEST_SIZE {
+            return None;
+        }
+        let s = (size + 4).max(16).div_ceil(8) * 8;
+        let threshold = if s < 512 {
+            (s + 1).next_power_of_two()
+        } else {
+            s
+        };
+        let cached = self.oracle.cached();
+        let length = cached.map_or(0, |offset| self.oracle.header(offset).0);
+        let from_cache = s <= length && length - s <= 512;
+        let (mut free, mut run, mut longest) = (0, 0, 0);
+        for (offset, length, used) in self.chunks() {
+            free = if used { free } else { length.max(free) };
+            let touches = !used || cached == Some(offset);
+            run = if touches { run + length } else { 0 };
+            longest = longest.max(run);
+        }
+        let reaches = |length| from_cache || length >= threshold;
+        Some((reaches(free), reaches(longest)))
+    }
+
+    /// A request at which Rust and port part. One time in so many, as the headers and the size say, it ends the history; else it is left out.
+    fn part(&mut self, size: u32) -> Result<String, String> {
+        let mix = |sum: u64, part: u32| sum.wrapping_mul(0x100_0000_01B3) ^ part as u64;
+        let seed = self.chunks().iter().fold(size as u64, |sum, chunk| {
+            mix(mix(sum, chunk.0), chunk.1 + chunk.2 as u32)
+        });
+        if !Numbers::new(seed).one_in(self.one_in) {
+            self.left_out += 1;
+            return Ok("left out: the two part".into());
+        }
+        self.ended = true;
+        self.endings += 1;
+        self.beyond(size).map_or(Ok("the two part".into()), Err)
+    }
+
+    /// What is wrong with the answers to a request at which the two part, if anything is: the Rust refuses it, and the port, on a copy, serves it as
+    /// the rules without words do and leaves a sound heap and an empty payload.
+    fn beyond(&mut self, size: u32) -> Option<String> {
+        let mut state = self.state();
+        let mut rules = self.plain.clone();
+        let given = port::ONE
+            .door
+            .hand_out(&mut state.record, &mut state.words, size);
+        let wanted = rules.hand_out(size);
+        if answer(given) != wanted || given.number != 0 {
+            return Some(format!("the Rust refuses what a run of chunks that touch would serve: {wanted:?} wanted, {given} given"));
+        }
+        if let Some(payload) = self.oracle.hand_out(size) {
+            return Some(format!(
+                "the Rust serves, at {payload}, what its headers cannot"
+            ));
+        }
+        if state.record != rules.record() {
+            return Some(format!(
+                "records differ: {:?} wanted, {:?} given",
+                rules.record(),
+                state.record
+            ));
+        }
+        if !audit::sound(&state.record, &state.words, port::ONE.places) {
+            return Some(format!("{given} leaves no sound heap"));
+        }
+        if !state.is_empty(given.value) {
+            return Some(format!("{given}, and the payload is not 0"));
+        }
+        rules.tag_difference(&state.words)
+    }
+
+    /// The answers to freeing. Before a heap is made 5 is the rules', and 4 where nothing live begins at the offset.
+    fn free(&mut self, offset: u32) -> (Reply, Reply, Reply) {
         let slice = &mut self.memory[..self.made as usize];
         let port = port::ONE.door.take_back(&mut self.record, slice, offset);
+        let rules = reply(self.plain.take_back(offset));
         if self.made == 0 {
-            return (refusal(5), port);
+            return (refusal(5), port, rules);
         }
         let Some(rank) = self.live.iter().position(|live| *live == offset) else {
-            return (refusal(4), port);
+            return (refusal(4), port, rules);
         };
         self.live.swap_remove(rank);
         // Safety: the payload is live, and live payloads are those of used chunks of 16 bytes or more.
         unsafe { self.oracle.take_back(offset) }
-        (refusal(0), port)
+        (refusal(0), port, rules)
     }
 
     /// Both marks; they have to agree.
@@ -289,6 +433,7 @@ impl Pair {
         self.requests += 1;
         let port = port::mark(&mut self.record, stacklets);
         let rust = self.oracle.adjusted_mark(stacklets);
+        self.plain.mark(stacklets);
         if rust != port {
             return Err(format!("marks differ: {rust:?} wanted, {port:?} given"));
         }

@@ -98,13 +98,11 @@ impl Plain {
             return (0, start + 4, 0);
         }
         let (found, compared) = self.search(s);
-        match found {
-            None => (3, 0, compared),
-            Some(start) => {
-                self.take(start, s);
-                (0, start + 4, compared)
-            }
-        }
+        let Some(start) = found else {
+            return self.from_merged(s, compared);
+        };
+        self.take(start, s);
+        (0, start + 4, compared)
     }
 
     /// Step 1: the oldest cached chunk with a slack of 0 to 512 leaves the cache, and the others keep their order.
@@ -130,6 +128,22 @@ impl Plain {
             }
         }
         (None, compared)
+    }
+
+    /// Step 2 goes on where nothing was found: every cached chunk is released, oldest first, and the lists are searched once more. Nothing
+    /// again: the heap stays as it was.
+    fn from_merged(&mut self, s: u32, compared: u32) -> Answer {
+        let mut merged = self.clone();
+        for start in std::mem::take(&mut merged.cache) {
+            merged.release(start);
+        }
+        let (found, more) = merged.search(s);
+        let Some(start) = found else {
+            return (3, 0, compared + more);
+        };
+        merged.take(start, s);
+        *self = merged;
+        (0, start + 4, compared + more)
     }
 
     /// Steps 2 to 4: a free chunk leaves its list, what remains is listed, and the counters follow.

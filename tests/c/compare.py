@@ -85,6 +85,15 @@ def told_apart(trace, places, slip):
     return False
 
 
+def emptying():
+    """The smallest histories that tell slips in emptying the cache, with four cache places: the input, and the model's lines; and those of each slip."""
+    cases = histories.SLIPS_IN_EMPTYING.items()
+    for slip, history in cases:
+        requests = [request.split() for request in history.split(", ")]
+        data = b"".join(b"%02X%08X\n" % (("make", "ask", "free").index(kind), int(number)) for kind, number in requests)
+        yield data, *(model.Trace(4, words=400, dump=True, heap=heap).run(data) for heap in (model.Heap, slip))
+
+
 def changed(rng, value, bits):
     """Another number in a value's place: a bit, a step, a small one, or any."""
     draw = rng.randrange(4)
@@ -185,6 +194,11 @@ def compare_kind(trace, places, count):
     for slip in slips:
         if not told_apart(trace, places, slip):
             sys.exit("no history tells %s from the door with %d cache places" % (slip.__name__, places))
+    if places == 4:
+        for data, wanted, slip in emptying():
+            lines += against("emptying the cache", data, ["--words", "400"], wanted)
+            if wanted == slip:
+                sys.exit("a history does not tell its slip: %r" % data)
     return lines + len(slips)
 
 

@@ -8,6 +8,8 @@ sums of lengths. The drawing's own reading (tools/heapmap) has to agree with bot
 The largest request that a map's sheet says is served is compared with the model's heap, for every size on random heaps.
 """
 
+import collections
+import copy
 import importlib.machinery
 import importlib.util
 import random
@@ -129,15 +131,20 @@ def compare_history(frames, rng, cuts):
 
 
 def check_served(heap, data):
-    """The largest request that the map's sheet says is served, and the smaller ones that it says are refused, are those of the model's heap."""
+    """The largest request that the map's sheet says is served is that of the model's heap, and every smaller one is served too. Gives what serves it."""
     sizes = range(1, 4 * heap.record.words + 16)
-    serves = {s: heap.oldest_serving(s) is not None or heap.search(s)[0] is not None for s in {model.rounded(size) for size in sizes}}
+    emptied = model.Heap(list(heap.memory), PLACES, copy.deepcopy(heap.record))
+    emptied.empty_cache(0)
+    chunks = heapmap.read(data)[0]
+    if [chunk.length for chunk in emptied.chunks() if not chunk.used] != list(map(heapmap.bytes_of, heapmap.runs(chunks))):
+        fail("the runs of touching free or cached chunks are the free ones of the emptied heap", data)
+    searched = lambda s: heap.search(s)[0] is not None or emptied.search(s)[0] is not None
+    serves = {s: heap.oldest_serving(s) is not None or searched(s) for s in {model.rounded(size) for size in sizes}}
     wanted = [size for size in sizes if serves[model.rounded(size)]]
-    most, refused = heapmap.served(heapmap.read(data)[0])
-    said = [size for size in range(1, most + 1) if not any(first <= size <= last for first, last in refused)]
-    if said != wanted:
-        fail("the largest request that is served, and what is refused below it", most, refused, max(wanted, default=0), data)
-    return len(refused)
+    most = heapmap.served(chunks)
+    if wanted != list(range(1, most + 1)):
+        fail("the largest request that is served, and every smaller one", most, max(wanted, default=0), data)
+    return heapmap.largest_request(chunks).partition(" (")[2]
 
 
 def served_history(seed):
@@ -158,45 +165,40 @@ HEAPS = 1_000  # random heaps of which every request is asked
 
 
 def check_requests():
-    """What is served: on random heaps by the model, for every size; on heaps just made by the proved program. Gives how many have a gap."""
-    found = []
+    """What is served: on random heaps by the model, for every size; on heaps just made by the proved program. Gives how many serve most by each way."""
+    ways = collections.Counter()
     for seed in range(HEAPS):
         heap = served_history(SEED + seed)
-        found.append(check_served(heap, map_of(heap)))
-    gaps = sum(count > 0 for count in found)
-    heap = model.Heap([0] * 601, PLACES)
-    heap.make(601)
-    for payload in [heap.hand_out(size).value for size in (1400, 800)]:
-        heap.take_back(payload)
-    if not gaps or check_served(heap, map_of(heap)) != 2:
-        fail("no heap refuses a smaller request than it serves, or not in two stretches, so that is not tested")
+        ways[check_served(heap, map_of(heap))] += 1
+    if set(ways) != {"", "a cached chunk)", "with the cache emptied)"} or min(ways.values()) < 20:
+        fail("what serves the largest request is not of each kind, so that is not tested", ways)
     for words, most in ((127, 244), (129, 508), (9, 20), (7, 0), (33, 116)):
         whole = b"10%08X%08X\n" % (0, 4 * words - 4)
         said = ask("trace", b"00%08X\n01%08X\n" % (words, most + 1)) + (ask("trace", b"00%08X\n01%08X\n" % (words, most)) if most else b"")
         numbers = [line[:2] for line in said.splitlines()]
-        if heapmap.served(heapmap.read(whole)[0]) != (most, []) or numbers != [b"00", b"03", b"00", b"00"][: len(numbers)]:
+        if heapmap.served(heapmap.read(whole)[0]) != most or numbers != [b"00", b"03", b"00", b"00"][: len(numbers)]:
             fail("the largest request on a heap of %d words just made" % words, most, said)
-    return gaps
+    return ways
 
 
 def check_words():
-    """How the sheet says it: the refused ones between, and where nothing is served."""
-    for data, words in (
-        (b"1000000000000001F8\n", "largest request that is served: 244 bytes"),
-        (b"100000000000000018\n", "largest request that is served: none"),
-        (b"120000000000000018\n", "largest request that is served: 20 bytes (a cached chunk)"),
-        (b"120000000000000210\n", "largest request that is served: 524 bytes (a cached chunk)"),
-        (b"120000000000000218\n", "largest request that is served: 532 bytes (a cached chunk); 1 to 12 are refused"),
-        (b"1000000000000001F8\n12000001F800000300\n", "largest request that is served: 764 bytes (a cached chunk)"),
-        (b"1000000000000001F8\n12000001F800000400\n", "largest request that is served: 1,020 bytes (a cached chunk); 245 to 500 are refused"),
-        (
-            b"1000000000000001F8\n12000001F800000400\n12000005F800000800\n",
-            "largest request that is served: 2,044 bytes (a cached chunk); 245 to 500 and 1,021 to 1,524 are refused",
-        ),
+    """How the sheet says it, in its last two lines: the longest run, and what serves the largest request; and where nothing is served."""
+    for data, run, words in (
+        (b"1000000000000001F8\n", "504 bytes at 0 (1 chunk)", "244 bytes"),
+        (b"100000000000000018\n", "24 bytes at 0 (1 chunk)", "none"),
+        (b"110000000000000018\n", "none", "none"),
+        (b"120000000000000018\n", "24 bytes at 0 (1 chunk)", "20 bytes (a cached chunk)"),
+        (b"120000000000000010\n100000001000000010\n", "32 bytes at 0 (2 chunks)", "20 bytes (with the cache emptied)"),
+        (b"120000000000000210\n", "528 bytes at 0 (1 chunk)", "524 bytes (a cached chunk)"),
+        (b"120000000000000100\n110000010000000010\n100000011000000100\n", "256 bytes at 0 (1 chunk)", "252 bytes (a cached chunk)"),
+        (b"1000000000000001F8\n12000001F800000300\n", "1,272 bytes at 0 (2 chunks)", "1,268 bytes (with the cache emptied)"),
+        (b"100000000000000300\n110000030000000010\n120000031000000200\n", "768 bytes at 0 (1 chunk)", "764 bytes"),
+        (b"120000000000000010\n120000001000000010\n120000002000000010\n", "48 bytes at 0 (3 chunks)", "20 bytes (with the cache emptied)"),
     ):
-        said = heapmap.table(heapmap.read(data)[0])[-1]
-        if said != words:
-            fail("the sheet's last line", said, words)
+        said = heapmap.table(heapmap.read(data)[0])[-2:]
+        wanted = ["longest run of touching free or cached chunks: " + run, "largest request that is served: " + words]
+        if said != wanted:
+            fail("the sheet's last lines", *said, *wanted)
 
 
 # spoiled maps
@@ -422,7 +424,7 @@ def main(arguments):
     check_words()
     check_holes()
     check_documents()
-    gaps = check_requests()
+    ways = check_requests()
     maps = [data for frames, cuts in traces(rng) for data in compare_history(frames, rng, cuts)]
     good = sorted({most_chunks(), *maps} - {NO_MAP})
     for k, data in enumerate(good):
@@ -441,8 +443,8 @@ def main(arguments):
         accepted += compare_inspect(spoiled(rng.choice(small), rng)) is not None
     print(
         "map: %d maps of chart equal the model's, %d different ones read; %d spoiled ones and %d extremes answered as the reader does, %d accepted;"
-        " the largest request that is served is the model's on %d heaps, %d of them with a gap below it"
-        % (len(maps), len(good), count, len(extremes()), accepted, HEAPS, gaps)
+        " the largest request that is served is the model's on %d heaps, by a cached chunk on %d, with the cache emptied on %d"
+        % (len(maps), len(good), count, len(extremes()), accepted, HEAPS, ways["a cached chunk)"], ways["with the cache emptied)"])
     )
 
 

@@ -20,7 +20,7 @@ const WHOLE_RUN: [(&str, &str); 11] = [
     ("020000001C", "000000000000000000"),
     ("01FFFFFFFF", "020000000000000000"),
     ("0100000000", "010000000000000000"),
-    ("0100000058", "030000000000000000"),
+    ("0100000058", "000000000400000001"),
 ];
 
 /// The answer line to a frame.
@@ -410,9 +410,58 @@ fn four_places(checks: &mut Checks) {
     checks.equal(format_args!("a fifth"), fifth, Err(Refusal::NoFit));
 }
 
+/// One history for each kind of heap: sizes asked for, offsets freed, a last request, what it gives, and how many chunks it compares.
+type Emptied = (
+    usize,
+    &'static [u32],
+    &'static [u32],
+    u32,
+    Result<Offset, Refusal>,
+    u32,
+);
+
+/// The cache is emptied before a handout is refused; refused after all, nothing has changed.
+fn emptying(checks: &mut Checks) {
+    const NO_FIT: Result<Offset, Refusal> = Err(Refusal::NoFit);
+    const CASES: [Emptied; 7] = [
+        (9, &[12], &[4], 20, Ok(Offset(4)), 1),
+        (9, &[12], &[4], 28, NO_FIT, 0),
+        (131, &[], &[], 541, NO_FIT, 2),
+        (281, &[556, 548], &[4], 557, NO_FIT, 1),
+        (281, &[556, 548], &[4], 12, Ok(Offset(4)), 1),
+        (17, &[12, 12, 12], &[36], 20, Ok(Offset(36)), 1),
+        (17, &[12, 12, 12], &[20], 20, NO_FIT, 0),
+    ];
+    for kind in [Kind::One, Kind::Four] {
+        for (words, sizes, frees, size, wanted, compared) in CASES {
+            let what = format_args!("{kind:?}, {words} words, {sizes:?}, free {frees:?}, {size}");
+            let mut lent = vec![0; words];
+            let mut heap = Heap::make_as(kind, &mut lent).expect("an accepted length");
+            for size in sizes {
+                let at = heap.hand_out(*size).expect("there is room").0 / 4;
+                for index in at..at - 1 + word(&heap, at - 1) / 4 {
+                    set_word(&heap, index, u32::MAX);
+                }
+            }
+            for at in frees {
+                checks.equal(what, heap.take_back(Offset(*at)), Ok(()));
+            }
+            let before = state(&heap, words as u32);
+            checks.equal(what, heap.hand_out(size), wanted);
+            checks.equal(what, heap.compared(), compared);
+            checks.holds(what, heap.audit());
+            if wanted.is_err() {
+                checks.equal(what, state(&heap, words as u32), before);
+            } else {
+                checks.equal(what, heap.record().cached, [0; 4]);
+            }
+        }
+    }
+}
+
 /// Run all.
 pub fn run(checks: &mut Checks) {
-    let parts: [(&str, fn(&mut Checks)); 9] = [
+    let parts: [(&str, fn(&mut Checks)); 10] = [
         ("whole run", whole_run),
         ("dimensions", dimensions),
         ("incident", incident),
@@ -422,6 +471,7 @@ pub fn run(checks: &mut Checks) {
         ("pointers", pointers),
         ("maps", maps),
         ("four cache places", four_places),
+        ("the cache emptied before a refusal", emptying),
     ];
     for (name, part) in parts {
         checks.begin(name.into());

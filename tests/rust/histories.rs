@@ -6,8 +6,12 @@
 //! compared domain (lengths up to 65,527, sizes up to 4,294,967,284, frees of live payloads) the Rust is
 //! asked; a request outside it must be refused by name and change nothing. Tasks find their payloads
 //! empty, which the Rust's need not be, write all over them, and find them as they left them.
+//!
+//! The port empties its cache before it says no, and the Rust does not. A request that it would serve so
+//! and the Rust refuse, by a plain reading of the Rust's headers, is left out. Of one that both refuse the
+//! counts are not compared, since the port searches twice; every word of it must be as before.
 
-use crate::checks::{set_word, word, Checks, Numbers};
+use crate::checks::{set_word, state, word, Checks, Numbers};
 use lischemur::{map_room, Heap, Kind, Memory, Offset, Refusal, MOST_SIZE};
 use oracle::{Name, Oracle, MOST_WORDS};
 use std::collections::BTreeMap;
@@ -22,6 +26,15 @@ struct Pair<'a> {
     /// Live payloads: their offsets, and what their tasks wrote.
     live: BTreeMap<u32, Vec<u32>>,
     numbers: Numbers,
+    /// Requests put to both, and requests left out because the two part.
+    counts: Counts,
+}
+
+/// Requests put to both, and requests left out because the two part.
+#[derive(Clone, Copy, Default)]
+pub struct Counts {
+    pub compared: u32,
+    pub left_out: u32,
 }
 
 /// What a link of the port names.
@@ -105,8 +118,43 @@ impl Pair<'_> {
         self.same(checks);
     }
 
-    /// Ask for bytes on both sides.
+    /// Whether a request is one that the Rust refuses and the port serves: the cached chunk does not serve it, no
+    /// free chunk reaches the threshold, and a run of touching chunks that are free or cached does.
+    fn parts(&self, size: u32) -> bool {
+        if !(1..=MOST_SIZE).contains(&size) {
+            return false;
+        }
+        let oracle = &*self.oracle;
+        let chunk = (size + 4).max(16).div_ceil(8) * 8;
+        let threshold = match chunk {
+            0..=511 => (chunk + 1).next_power_of_two(),
+            _ => chunk,
+        };
+        let cached = oracle.cached();
+        let length = cached.map_or(0, |at| oracle.header(at).0);
+        let serves = (chunk..=chunk.saturating_add(512)).contains(&length);
+        let (mut at, mut run, mut free, mut longest) = (0, 0, 0, 0);
+        while at + 4 < 4 * oracle.words() {
+            let (length, used) = oracle.header(at);
+            free = if used { free } else { length.max(free) };
+            run = match used && cached != Some(at) {
+                true => 0,
+                false => run + length,
+            };
+            longest = run.max(longest);
+            at += length;
+        }
+        !serves && free < threshold && longest >= threshold
+    }
+
+    /// Ask for bytes on both sides, unless the two part.
     fn hand_out(&mut self, checks: &mut Checks, size: u32) {
+        if self.parts(size) {
+            self.counts.left_out += 1;
+            return;
+        }
+        self.counts.compared += 1;
+        let before = state(&self.heap, self.oracle.words());
         let got = if self.numbers.below(2) == 0 {
             self.heap.hand_out(size)
         } else {
@@ -122,10 +170,14 @@ impl Pair<'_> {
             },
         };
         checks.equal(format_args!("asked for {size}"), got, wanted);
-        if (1..=MOST_SIZE).contains(&size) {
+        if got.is_err() {
+            let after = state(&self.heap, self.oracle.words());
+            checks.holds(format_args!("nothing has changed"), after == before);
+        }
+        if got.is_ok() {
             let compared = (self.heap.compared(), self.oracle.compared());
             checks.equal(format_args!("compared"), compared.0, compared.1);
-        } else {
+        } else if got != Err(Refusal::NoFit) {
             checks.equal(format_args!("compared"), self.heap.compared(), 0);
         }
         if let Ok(Offset(offset)) = got {
@@ -149,6 +201,7 @@ impl Pair<'_> {
 
     /// Take back on both sides; the Rust is asked if the payload is live.
     fn take_back(&mut self, checks: &mut Checks, offset: u32) {
+        self.counts.compared += 1;
         let written = self.live.remove(&offset);
         if let Some(written) = &written {
             let now: Vec<u32> = (offset / 4..)
@@ -204,8 +257,14 @@ impl Pair<'_> {
     }
 }
 
-/// Run one history; how many requests it had.
-fn history(checks: &mut Checks, oracle: &mut Oracle, seed: u64, words: u32, requests: u32) -> u32 {
+/// Run one history; how many requests were compared, and how many left out.
+fn history(
+    checks: &mut Checks,
+    oracle: &mut Oracle,
+    seed: u64,
+    words: u32,
+    requests: u32,
+) -> Counts {
     checks.begin(format!("history {seed} on {words} words"));
     let mut memory = Box::new(Memory::<{ MOST_WORDS as usize }>::new());
     let lent = &mut memory.words()[..words as usize];
@@ -214,24 +273,30 @@ fn history(checks: &mut Checks, oracle: &mut Oracle, seed: u64, words: u32, requ
         oracle,
         live: BTreeMap::new(),
         numbers: Numbers::new(seed + 1),
+        counts: Counts::default(),
     };
     pair.make(checks, words);
     for _ in 0..requests {
         pair.step(checks, words);
     }
     checks.holds(format_args!("sound at the end"), pair.heap.audit());
-    requests
+    pair.counts
 }
 
-/// Run all; how many requests were compared.
-pub fn run(checks: &mut Checks, oracle: &mut Oracle) -> u32 {
-    let mut requests = 0;
-    for seed in 0..HISTORIES {
+/// Run all; how many requests were compared, and how many left out.
+pub fn run(checks: &mut Checks, oracle: &mut Oracle) -> Counts {
+    let mut all = Counts::default();
+    for seed in 0..=HISTORIES {
         let numbers = &mut Numbers::new(1_000_000 + seed);
         let most = numbers.one_of(&[20, 100, 400, 1200]);
         let words = 5 + 2 * numbers.below(most / 2);
         let steps = 20 + numbers.below(160);
-        requests += history(checks, oracle, seed, words, steps);
+        let counts = match seed {
+            HISTORIES => history(checks, oracle, seed, MOST_WORDS, 60),
+            _ => history(checks, oracle, seed, words, steps),
+        };
+        all.compared += counts.compared;
+        all.left_out += counts.left_out;
     }
-    requests + history(checks, oracle, HISTORIES, MOST_WORDS, 60)
+    all
 }

@@ -142,7 +142,8 @@ impl<'a> Heap<'a> {
     }
 
     /// Hand out a payload of at least `size` bytes, all of it 0 up to its chunk's end. `ZeroSize`,
-    /// `TooLarge`, `Damaged` and `NoFit` are tested in this order.
+    /// `TooLarge`, `Damaged` and `NoFit` are tested in this order. Before it refuses with `NoFit` it empties
+    /// the cache and searches once more; refused after all, the cache and every word are as they were.
     pub fn hand_out(&mut self, size: u32) -> Result<Offset, Refusal> {
         let call = match self.kind {
             Kind::One => door::lischemur_one_hand_out,
@@ -300,7 +301,7 @@ impl<'a> Heap<'a> {
         unsafe { door::lischemur_high_water(self.record) }
     }
 
-    /// How many free chunks the last making, handout or taking back compared.
+    /// How many free chunks the last making, handout or taking back compared; in both searches where there were two.
     pub fn compared(&self) -> u32 {
         self.compared
     }

@@ -14,7 +14,7 @@ pub enum Refusal {
     ZeroSize,
     /// Answer 2: more than [`MOST_SIZE`] bytes were asked for.
     TooLarge,
-    /// Answer 3: the cached chunk does not serve, and no free chunk reaches the threshold.
+    /// Answer 3: no cached chunk serves and no free one reaches the threshold, not even with the cache emptied and merged.
     NoFit,
     /// Answer 4: no live payload starts at the offset.
     NotLive,
@@ -62,7 +62,9 @@ impl fmt::Display for Refusal {
         match self {
             Refusal::ZeroSize => out.write_str("zero bytes were asked for"),
             Refusal::TooLarge => out.write_str("too many bytes were asked for"),
-            Refusal::NoFit => out.write_str("no free chunk is large enough"),
+            Refusal::NoFit => {
+                out.write_str("no free chunk is large enough, not even with the cache emptied")
+            }
             Refusal::NotLive => out.write_str("no live payload starts there"),
             Refusal::Damaged => out.write_str("the heap is damaged"),
             Refusal::BadLength => {

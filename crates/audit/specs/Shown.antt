@@ -1,4 +1,4 @@
--- THE PAIR AS THE RULES SEE IT: a record's links and figures, beside its words, as a state of the rules. This is all of this folder that a reader of the
+-- THE PAIR AS THE RULES SEE IT: a record's links and figures, and its words, as a state of the rules. This is all of this folder that a reader of the
 -- audit's contract has to read.
 use mathlib.Core.List.{List}
 use Prim.Native.Nat.{ℕ}

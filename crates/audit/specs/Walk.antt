@@ -41,7 +41,7 @@ turn c go at sum top fr Bad = Broken
 turn c go at sum top fr (Free n) = go (at + n / 4) 0 sum top (fr + bit (eqb (classOf n) c))
 turn c go at sum top fr (Used n) = go (at + n / 4) 1 (sum + n) ((at + n / 4) * 4) fr
 
--- the walk from word `at` on, in at most so many turns, with the sums so far
+-- the walk from word `at` on, in at most this many turns, with the sums so far
 unfoldable pub walk : ℕ → List ℕ → ℕ → ℕ → ℕ → ℕ → ℕ → ℕ → Tiled
 walk zero ws c at left sum top fr = Broken
 walk (suc f) ws c at left sum top fr =
@@ -63,7 +63,7 @@ onto go at Bad = Bad
 onto go at (Free n) = go (at + n / 4) 0
 onto go at (Used n) = go (at + n / 4) 1
 
--- the search for word w from word `at` on, in at most so many turns
+-- the search for word w from word `at` on, in at most this many turns
 unfoldable pub chunkFrom : ℕ → List ℕ → ℕ → ℕ → ℕ → Seen
 chunkFrom zero ws w at left = Bad
 chunkFrom (suc f) ws w at left =
@@ -97,7 +97,7 @@ pastUsed go at Bad = at
 pastUsed go at (Free n) = at
 pastUsed go at (Used n) = go (at + n / 4)
 
--- its word, from word `at` on, in at most so many turns
+-- its word, from word `at` on, in at most this many turns
 unfoldable pub firstFrom : ℕ → List ℕ → ℕ → ℕ
 firstFrom zero ws at = at
 firstFrom (suc f) ws at = pastUsed (firstFrom f ws) at (seenAt ws at 1)

@@ -1,14 +1,18 @@
-// The audit: whether a record and its words are sound (document 01, "Sound"), the test that answer 5 goes by. It reads any record and any words.
+// The audit: whether a record and its words are sound (document 01, "Sound"), the test behind answer 5. It reads any record and any words.
 //
-// What it costs: the tiling is walked with all tests, and from the first free chunk on once more with one; each class list is followed once both
-// ways, and once more for each window of 2,048 words. A list of none costs two reads. The first walk waits for the cached chunks' words one after the
-// other, one test a used chunk. The stack holds 128 bytes of marks beside the locals, whatever the length.
+// What it costs: the tiling is walked once with all tests, and once more, from the first free chunk on, with a single one; each class list is followed
+// once in both directions, and once more for each window of 2,048 words. An empty list costs two reads. The first walk waits for the words of the
+// cached chunks one after the other, with one test for each used chunk; their lengths are read after it. Besides the locals, the stack holds 128 bytes
+// of marks, whatever the length.
 //
 //     tiling    chunks, from one header to the next
 //     rings     the class lists as mirrored rings
 //     windows   the free chunks of a stretch of words, marked, against the lists
 //
-// The contract is an equation with the rules' own test. In between stands `proofs/Sound.antt`: the same by words and counts, as the code goes.
+// Words and bytes are counted in u32 once the length is tested: a usize has 64 bits, two registers on a meter's processor. So the functions below
+// require fewer than 2^30 words.
+//
+// The contract is an equation with the rules' own test. In between stands `proofs/Sound.antt`: the same condition, in terms of words and counts.
 ghost use mathlib.Core.Path.{_≡_};
 ghost use mathlib.Core.Logic.{_↔_};
 ghost use mathlib.Core.Bool.{Bool, true};
@@ -26,10 +30,11 @@ mod windows;
 
 use rings::rings_right;
 use tiling::count_chunks;
+use tiling::lengths_at;
 use windows::lists_right;
 use words::Link;
 
-// What a record holds beside its links, as the audit reads it.
+// What a record holds besides its links, as the audit reads it.
 pub struct Figures {
     // The heap's length in words.
     pub words: u32,
@@ -44,20 +49,23 @@ pub struct Figures {
     pub fresh: u32,
 }
 
-// The word of a cached chunk's header: where the link names no chunk, the heap's length, and where it names one past the words, the guard. Neither is a
-// used chunk's header.
-fn cached_word(n: usize, cached: Link) -> usize
+// The word of a cached chunk's header: the heap's length if the link names no chunk, the guard if it names one past the words. Neither is a used
+// chunk's header.
+fn cached_word(n: u32, cached: Link) -> u32
     ensures { λ r. ⌜ r ≡ cachedWord n (cached .0) ⌝ }
 {
     if cached.0 < 6 {
         return n;
     }
-    let w = cached.0 as usize - 6;
-    if w < n { w } else { words::monus(n, 1) }
+    let w = cached.0 as u32 - 6;
+    if w < n {
+        return w;
+    }
+    words::monus(n as usize, 1) as u32
 }
 
 // The words of the cached chunks' headers.
-fn cached_words(n: usize, c: [Link; 4]) -> [usize; 4]
+fn cached_words(n: u32, c: [Link; 4]) -> [u32; 4]
     ensures { λ r. ⌜ r ≡ wordsOf n (numbers c) ⌝ }
 {
     [
@@ -68,7 +76,7 @@ fn cached_words(n: usize, c: [Link; 4]) -> [usize; 4]
     ]
 }
 
-// Whether a link is right before others: link 0 before another link 0, or a chunk's link that does not come again.
+// Whether a link can stand before these: link 0 before another link 0, or a chunk's link that does not come again.
 fn front_right(l: Link, others: [Link; 4]) -> bool
     ensures { λ r. ⌜ r ≡ frontRight (l .0) (numbers others) ⌝ }
 {
@@ -104,11 +112,11 @@ fn links_right(c: [Link; 4], places: usize) -> bool
     cache::used_places(c) <= places
 }
 
-// Whether the figures are right for n words whose used chunks sum up to `sum` and end at `top`, `held` bytes of them cached.
-fn figures_right(f: Figures, n: usize, sum: usize, held: usize, top: usize) -> bool
+// Whether the figures are right for n words whose used chunks add up to `sum` bytes and end at `top`, with `held` of these bytes cached.
+fn figures_right(f: Figures, n: u32, sum: u32, held: usize, top: u32) -> bool
     ensures { λ (r : Bool). ⌜ (r ≡ true ↔ FiguresFit f n sum held top) ⌝ }
 {
-    if f.words as usize != n {
+    if f.words != n {
         return false;
     }
     if n < 5 {
@@ -120,7 +128,7 @@ fn figures_right(f: Figures, n: usize, sum: usize, held: usize, top: usize) -> b
     if n % 2 == 0 {
         return false;
     }
-    if f.committed as usize != sum {
+    if f.committed != sum {
         return false;
     }
     if f.committed < f.in_use {
@@ -135,7 +143,7 @@ fn figures_right(f: Figures, n: usize, sum: usize, held: usize, top: usize) -> b
     if f.high < f.peak {
         return false;
     }
-    let high = f.high as usize;
+    let high = f.high;
     if n * 4 - 4 < high {
         return false;
     }
@@ -163,16 +171,21 @@ pub fn audit(
     if !links {
         return false;
     }
-    let ws = cached_words(heap.len(), cached);
+    if 65529 < heap.len() {
+        return false;
+    }
+    let n = heap.len() as u32;
+    let ws = cached_words(n, cached);
     let t = count_chunks(heap, ws);
     let whole = t.whole;
     if !whole {
         return false;
     }
-    if t.next != heap.len() {
+    if t.next != n {
         return false;
     }
-    let right = figures_right(figures, heap.len(), t.sum, t.held, t.top);
+    let held = lengths_at(heap, ws);
+    let right = figures_right(figures, n, t.sum, held, t.top);
     if !right {
         return false;
     }

@@ -1,8 +1,8 @@
 // The chart program: reads trace frames from standard input, as the trace program does, and at their end writes the map of the heap in use (W-201).
 //
-// Its memory is 16,383 words set to 0, and its heap has four cache places. Reading is in crate `stream`, what the map is in crate `map`. No line is answered, and a last line without its
-// line feed does nothing. Where there is no map, as before a heap is made, one answer line says the number: 5, with value and count 0. A read that
-// fails ends the program with nothing written: the input's rest is not known.
+// Its memory is 16,383 words set to 0, and its heap has four cache places. Crate `stream` does the reading, crate `map` the map. No line is answered,
+// and a last line without its line feed does nothing. Where there is no map, as before a heap is made, one answer line says so: number 5, with value
+// and count 0. A read that fails ends the program with nothing written, since the rest of the input is not known.
 use heap::Kind;
 use heap::Record;
 use map::Answer;
@@ -23,7 +23,7 @@ fn main() {
     }
 }
 
-// Fills the room with the map of the heap that lies at the start of the memory, or with the answer line where there is none. How many bytes it has.
+// Fills the room with the map of the heap that lies at the start of the memory, or with the answer line if there is none. Returns how many bytes.
 fn fill(rec: Record, memory: &[u32], room: &mut [u8]) -> usize {
     let n = rec.words as usize;
     if memory.len() < n {
@@ -38,7 +38,7 @@ fn fill(rec: Record, memory: &[u32], room: &mut [u8]) -> usize {
     }
 }
 
-// The bytes of so many lines, as far as there is room.
+// The bytes of this many lines, as far as there is room.
 fn lines(room: usize, n: usize) -> usize {
     if n <= room / 19 { n * 19 } else { room }
 }

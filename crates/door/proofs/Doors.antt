@@ -36,7 +36,7 @@ pub data Door : Type 0 where
   handingOut : ℕ → Door
   takingBack : ℕ → Door
 
--- what the contract of each says a state becomes, with so many cache places
+-- what a state becomes by the contract of each, with this many cache places
 abbrev pub through : ℕ → Door → State → Outcome State
 through places (making n) s = makeOver s n
 through places (handingOut size) s = hand base 65529 places s size
@@ -69,7 +69,9 @@ over-kept s n = go (eqb n (length (s .words))) refl (acceptedᵇ 65529 n) refl
         → (pick t (pick u (make narrow 65529 (s .words)) (says 6 0 0 s)) (says 6 0 0 s)) .after ≡ s
     go false e u f h = refl
     go true e false f h = refl
-    go true e true f h = absurd (h (narrow-making (four .places) (s .words) .0 .1 (subst (Accepted 65529) (eqb-true n (length (s .words)) e) (accepted-true 65529 n f))))
+    go true e true f h =
+        let lent : Accepted 65529 (length (s .words)) = subst (Accepted 65529) (eqb-true n (length (s .words)) e) (accepted-true 65529 n f) in
+        absurd (h (narrow-making (four .places) (s .words) .0 .1 lent))
 
 -- each of the three keeps the state it refuses
 kept : (places : ℕ) (d : Door) (s : State) → through places d s .number ≢ 0 → through places d s .after ≡ s

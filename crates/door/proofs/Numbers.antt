@@ -1,5 +1,5 @@
 -- A call by value, with its answer in numbers: the outcome is the same.
---     same-outcome    of an answer and of its three numbers, beside the same record and words
+--     same-outcome    of an answer and of its three numbers, with the same record and words
 -- Assumes nothing.
 use mathlib.Core.Path.{_≡_, ap}
 use mathlib.Core.List.{List}

@@ -1,5 +1,5 @@
--- WHAT A CALLER IN C SEES: an answer of the heap or the map as document 01's three numbers, a reply beside what the call leaves as the rules' outcome, the
--- mark in plain numbers, and making over a record that is there.
+-- WHAT A CALLER IN C SEES: an answer of the heap or the map as document 01's three numbers, a reply and what the call leaves as the rules' outcome, the
+-- mark in plain numbers, and making over an existing record.
 use Prim.Native.Nat.{ℕ, _<_}
 use lib.Dec.{eqb}
 use lib.IntN.{pos}
@@ -21,7 +21,7 @@ use Rattle.door.specs.declared.reply.Reply.{Reply}
 use Rattle.door.specs.declared.reply.Replied.{Replied}
 use Rattle.door.specs.declared.reply.Marking.{Marking}
 
--- the reply of three numbers
+-- the reply with these three numbers
 abbrev pub threeOf : ℕ → ℕ → ℕ → Reply
 threeOf n v c = record { number = n; value = v; compared = c }
 
@@ -29,7 +29,7 @@ threeOf n v c = record { number = n; value = v; compared = c }
 abbrev pub replyOf : Answer → Reply
 replyOf a = threeOf (number a) (value a) (compared a)
 
--- an answer in numbers, beside the record after the call
+-- an answer in numbers, with the record after the call
 unfoldable pub inNumbers : Out → Replied
 inNumbers o = record { reply = replyOf (o .answer); rec = o .rec }
 
@@ -41,11 +41,11 @@ mapReply a = threeOf (mapNumber a) (mapValue a) 0
 abbrev pub Counted : MapAnswer → Type 0
 Counted a = mapValue a < 4294967296
 
--- a reply beside what the call leaves: the state, or the room that was lent
+-- a reply and what the call leaves: the state, or the room that was lent
 abbrev pub replied : {S : Type 0} → Reply → S → Outcome S
 replied r s = says (r .number) (r .value) (r .compared) s
 
--- the mark in plain numbers, beside a record
+-- the mark in plain numbers, with a record
 abbrev pub markingOf : Mark → Record → Marking
 markingOf Unchanged r = record { mark = pos 0; changed = 0; rec = r }
 markingOf (At n) r = record { mark = n; changed = 1; rec = r }
@@ -54,8 +54,8 @@ markingOf (At n) r = record { mark = n; changed = 1; rec = r }
 abbrev pub markingBy : Marked → Marking
 markingBy m = markingOf (m .mark) (m .rec)
 
--- MAKING OVER a record that is there, of as many words as the caller says: where they are not the words that are lent, or no accepted length, 6 and all
--- stays; else the rules' making, which takes no record
+-- MAKING OVER an existing record, of as many words as the caller says: if these are not as many as are lent, or no accepted length, 6, and all stays
+-- as it was; else the rules' making, which takes no record
 unfoldable pub makeOver : State → ℕ → Outcome State
 makeOver s n =
     let made = pick (acceptedᵇ 65529 n) (make narrow 65529 (s .words)) (says 6 0 0 s) in

@@ -1,7 +1,7 @@
 // The kernel's door: what firmware links (include/lischemur.h declares it for C).
 //
-// Making, handing out and taking back change a record where it lies; document 01 gives this door to no other call. The others take the
-// record by value, which on x86-64 is how C passes and gets back a struct of this size: the audit, the map and the four readers leave it
+// Making, handing out and taking back change a record where it lies; document 01 lets no other call do so. The others take the
+// record by value, which on x86-64 is how C passes and returns a struct of this size: the audit, the map and the four readers leave it
 // alone, and the mark hands it back with its flag off. Each agrees with the call of crate `heap` or `map` that it stands for, and accepts
 // any record, any words, any room and any number. A bool that C reads is a number here, 1 or 0.
 //
@@ -38,7 +38,7 @@ pub use reply::Reply;
 use reply::map_reply;
 use reply::marking_of;
 
-// Makes a heap of the whole slice, which is to have `words` words. A 6 keeps the record.
+// Makes a heap of the whole slice, which must have `words` words. After a 6 the record is as it was.
 #[no_mangle]
 pub extern "C" fn lischemur_make_needs_library_of_layout_4(
     rec: &mut Record,
@@ -89,7 +89,7 @@ pub extern "C" fn lischemur_audit_needs_library_of_layout_4(rec: Record, heap: &
     if sound { 1 } else { 0 }
 }
 
-// Writes the heap's map at the start of the room, a line for each chunk, and replies how many: 5 if the heap is damaged, then 6 if the
+// Writes the heap's map at the start of the room, a line for each chunk, and replies how many: 5 if the heap is damaged, else 6 if the
 // room is too short.
 #[no_mangle]
 pub extern "C" fn lischemur_write_map_needs_library_of_layout_4(
@@ -129,7 +129,7 @@ pub extern "C" fn lischemur_committed_needs_library_of_layout_4(rec: Record) -> 
     rec.committed()
 }
 
-// The most bytes that were committed.
+// The most bytes that were ever committed.
 #[no_mangle]
 pub extern "C" fn lischemur_peak_needs_library_of_layout_4(rec: Record) -> u32
     ensures { λ r. ⌜ r ≡ rec .peak ⌝ }

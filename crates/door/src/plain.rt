@@ -1,6 +1,6 @@
-// The calls by value, with replies for answers: what stands behind each door.
+// The calls by value, with replies instead of answers: what stands behind each door.
 //
-// The doors have no branch, so that one walk proves them all; whatever is to be decided is decided here.
+// The doors do not branch, so that one walk proves them all; every decision is made here.
 ghost use mathlib.Core.Path.{_≡_};
 ghost use Rattle.rules.specs.Demands.{hand, back};
 ghost use Rattle.rules.specs.Making.{acceptedᵇ};
@@ -47,7 +47,7 @@ pub(crate) fn take_back_one(rec: Record, heap: &mut [u32], payload: u32) -> Repl
     in_numbers(out)
 }
 
-// Making over a record that is there: a refusal hands it back as it was, where `Record::make` would hand back the empty one.
+// Makes a heap over an existing record: a refusal gives the record back as it was, where `Record::make` would give the empty one.
 pub(crate) fn make_over(rec: Record, heap: &mut [u32], words: u32) -> Replied
     ensures { λ q. ⌜ replied (q .reply) (seen (q .rec) (now (heap .exit))) ≡ makeOver (seen rec (now (heap .entry))) words ⌝ }
 {
@@ -67,7 +67,7 @@ pub(crate) fn make_over(rec: Record, heap: &mut [u32], words: u32) -> Replied
     in_numbers(out)
 }
 
-// Whether a heap may have so many words: an odd count, 5 to 65,529.
+// Whether a heap may have this many words: an odd count from 5 to 65,529.
 fn accepted(words: u32) -> bool
     ensures { λ r. ⌜ r ≡ acceptedᵇ 65529 words ⌝ }
 {

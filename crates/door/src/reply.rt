@@ -1,4 +1,4 @@
-// Replies: what the heap's and the map's answers are to a caller in C. No enum crosses the door, so an answer is document 01's three numbers.
+// Replies: the answers of the heap and of the map as a caller in C sees them. No enum crosses the door: an answer is document 01's three numbers.
 //
 // Contracts cite specs/Reply.antt.
 ghost use mathlib.Core.Path.{_≡_};
@@ -8,12 +8,12 @@ use heap::Mark;
 use heap::Out;
 use heap::Record;
 
-// Document 01's numbers of an answer.
+// An answer as document 01's numbers.
 #[repr(C)]
 pub struct Reply {
     // 0 done, 1 zero size, 2 too large, 3 no fit, 4 not live, 5 damaged, 6 bad length or room too short
     pub number: u32,
-    // the payload's offset for a handout that is done, how many chunks have a line for a map that is, else 0
+    // the payload's offset if a handout is done, the number of lines if a map is, else 0
     pub value: u32,
     // how many free chunks were compared
     pub compared: u32,
@@ -28,7 +28,7 @@ pub struct Replied {
 // What the mark says, and the record with its flag off.
 #[repr(C)]
 pub struct Marking {
-    // high water less the stacks' share; 0 where nothing changed
+    // high water less the stacks' share; 0 if nothing has changed
     pub mark: i64,
     // 1 if high water has risen since the mark was last read, else 0
     pub changed: u32,
@@ -36,7 +36,7 @@ pub struct Marking {
 }
 
 impl Reply {
-    // The reply of three numbers.
+    // The reply with these three numbers.
     fn of(number: u32, value: u32, compared: u32) -> Reply
         ensures { λ r. ⌜ r ≡ threeOf number value compared ⌝ }
     {
@@ -63,7 +63,7 @@ fn reply_of(a: Answer) -> Reply
     }
 }
 
-// An answer in numbers, beside the record after the call.
+// An answer in numbers, with the record after the call.
 pub(crate) fn in_numbers(out: Out) -> Replied
     ensures { λ r. ⌜ r ≡ inNumbers out ⌝ }
 {
@@ -75,7 +75,7 @@ pub(crate) fn in_numbers(out: Out) -> Replied
     }
 }
 
-// The three numbers of a map's answer, whose count of chunks or of lines has to fit 32 bits.
+// The three numbers of a map's answer, whose count of chunks or lines must fit in 32 bits.
 pub(crate) fn map_reply(a: map::Answer) -> Reply
     requires { ⌜ Counted a ⌝ }
     ensures { λ r. ⌜ r ≡ mapReply a ⌝ }
@@ -88,7 +88,7 @@ pub(crate) fn map_reply(a: map::Answer) -> Reply
     }
 }
 
-// The mark in plain numbers, beside a record.
+// The mark in plain numbers, with a record.
 pub(crate) fn marking_of(m: Mark, rec: Record) -> Marking
     ensures { λ r. ⌜ r ≡ markingOf m rec ⌝ }
 {

@@ -6,7 +6,7 @@ use lib.Dec.{leb}
 use lib.ListN.{length, drop}
 use Rattle.frame.specs.Hex.{digitsOf}
 
--- an answer's line: two digits answer, eight value, eight compared, and a line feed
+-- an answer's line: two digits for its number, eight for its value, eight for the compared count, and a line feed
 unfoldable pub answerBytes : ℕ → ℕ → ℕ → List ℕ
 answerBytes number value compared = digitsOf 2 number ++ digitsOf 8 value ++ digitsOf 8 compared ++ (10 ∷ [])
 

@@ -4,7 +4,7 @@ use mathlib.Core.List.{List, [], _∷_, _++_}
 use Prim.Native.Nat.{ℕ, zero, suc, _+_, _-_, _*_, _/_, _%_}
 use lib.Dec.{leb, ltb}
 
--- the value of a digit; 16 of a byte that is none
+-- the value of a digit; 16 for any other byte
 unfoldable pub digitOf : ℕ → ℕ
 digitOf b = cond (leb 48 b && leb b 57) (b - 48) (cond (leb 65 b && leb b 70) (b - 55) 16)
 
@@ -17,12 +17,12 @@ abbrev pub allDigits : List ℕ → Bool
 allDigits [] = true
 allDigits (b ∷ bs) = ltb (digitOf b) 16 && allDigits bs
 
--- the number that digits say after those that said n
+-- the number that digits spell after those that spelt n
 abbrev pub valueFrom : ℕ → List ℕ → ℕ
 valueFrom n [] = n
 valueFrom n (b ∷ bs) = valueFrom (n * 16 + digitOf b) bs
 
--- the number that digits say
+-- the number that digits spell
 abbrev pub valueOf : List ℕ → ℕ
 valueOf bs = valueFrom 0 bs
 

@@ -1,4 +1,4 @@
--- LINES OF INPUT (document 01, "Trace frames"): which lines are frames, what they ask, and a request's own frame.
+-- LINES OF INPUT (document 01, "Trace frames"): which lines are frames, what they ask for, and the frame of a request.
 use mathlib.Core.Bool.{_&&_, cond}
 use mathlib.Core.List.{List, _++_}
 use Prim.Native.Nat.{ℕ, zero, suc}
@@ -17,7 +17,7 @@ requestOf (suc zero) n = Good (HandOut n)
 requestOf (suc (suc zero)) n = Good (TakeBack n)
 requestOf (suc (suc (suc k))) n = Bad
 
--- a line without its line feed: a frame is ten digits, two of kind and eight of number; any other line is none
+-- a line without its line feed: a frame is ten digits, two for the kind and eight for the number; any other line is no frame
 unfoldable pub lineOf : List ℕ → Line
 lineOf l = cond (eqb (length l) 10 && allDigits l) (requestOf (valueOf (take 2 l)) (valueOf (drop 2 l))) Bad
 
@@ -27,7 +27,7 @@ kindOf (Make n) = 0
 kindOf (HandOut n) = 1
 kindOf (TakeBack n) = 2
 
--- a request's number: words, bytes asked, payload offset
+-- a request's number: words, bytes asked for, payload offset
 abbrev pub numberOf : Request → ℕ
 numberOf (Make n) = n
 numberOf (HandOut n) = n

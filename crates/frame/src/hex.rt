@@ -1,4 +1,4 @@
-// Hexadecimal: one digit, and a field of as many digits as are lent.
+// Hexadecimal: one digit, and a field of digits, as wide as the slice that is lent.
 //
 // Digits are 0–9 A–F, upper case both ways, the most significant first. Contracts cite specs/Hex.antt and specs/Field.antt.
 ghost use mathlib.Core.Path.{_≡_};
@@ -7,13 +7,13 @@ ghost use lib.ListN.{length};
 ghost use Rattle.frame.specs.Hex.{digitOf, byteOf, digitsOf};
 ghost use Rattle.frame.specs.Field.{fieldOf};
 
-// What a field says: a number, or none where a byte is no digit or the number is above 32 bits.
+// What a field says: a number, or none if a byte is not a digit or the number does not fit in 32 bits.
 pub enum Field {
     Number(u32),
     NoNumber,
 }
 
-// The value of a digit; 16 of a byte that is none.
+// The value of a digit; 16 for any other byte.
 fn digit_of(byte: u8) -> u32
     ensures { λ r. ⌜ r ≡ digitOf byte ⌝ }
 {
@@ -42,7 +42,7 @@ pub fn read_field(digits: &[u8]) -> Field
         if 15 < digit {
             return Field::NoNumber;
         }
-        // the digit has no room any more; no later one takes the number back
+        // no room for the digit, and later ones only make the number larger
         if 268435455 < number {
             return Field::NoNumber;
         }
@@ -51,7 +51,7 @@ pub fn read_field(digits: &[u8]) -> Field
     Field::Number(number)
 }
 
-// Writes a number over the whole field: its last digits where the field is short, zeros in front where it is long.
+// Writes a number over the whole field: only its last digits if the field is short, leading zeros if it is long.
 pub fn write_field(out: &mut [u8], number: u32)
     ensures { λ _. ⌜ now (out .exit) ≡ digitsOf (length (now (out .entry))) number ⌝ }
 {

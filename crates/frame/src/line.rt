@@ -1,10 +1,10 @@
-// A line of input: ten digits, two of kind and eight of number, or no frame. Contracts cite specs/Line.antt.
+// A line of input: ten digits, two for the kind and eight for the number, or no frame. Contracts cite specs/Line.antt.
 ghost use mathlib.Core.Path.{_≡_};
 ghost use Rattle.frame.specs.Line.{requestOf, lineOf};
 use super::hex::Field;
 use super::hex::read_field;
 
-// What a frame asks: a heap of so many words, a payload of so many bytes, the payload at this offset back.
+// What a frame asks for: a heap of this many words, a payload of this many bytes, the payload at this offset to be taken back.
 pub enum Request {
     Make(u32),
     HandOut(u32),
@@ -17,7 +17,7 @@ pub enum Line {
     Bad,
 }
 
-// What a kind asks of a number: 00 make, 01 hand out, 02 take back. No other kind is known.
+// What a kind asks for, with its number: 00 make, 01 hand out, 02 take back. There is no other kind.
 fn request_of(kind: u32, number: u32) -> Line
     ensures { λ r. ⌜ r ≡ requestOf kind number ⌝ }
 {

@@ -3,7 +3,8 @@
 --     sound-four      what is sound for a kind is sound with four places
 --     make-..         making;  one-chunk-by: its one free chunk
 --     cache-packed    in a sound pair no unused place stands before a used one
---     served-..       a handout from the cache;  listed-..: from the lists
+--     served-..       a handout from the cache;  listed-..: from the lists;  found-taken: what a search found
+--     oldest-..       the oldest cached chunk, let go
 --     live-..         which offsets are live
 --     settled-..      a chunk taken back
 --     hand-.., back-..    the tests in their order
@@ -30,7 +31,7 @@ use Rattle.rules.specs.Lists.{Mem}
 use Rattle.rules.specs.Steps.{portion, lengthAt, unlink, link, setLeft, clearLeft, markFree, markUsed, oneChunk, returnExcess, takeChunk, emptied, leftFree, rightFree, merge, merged, releaseChunk}
 use Rattle.rules.specs.Search.{Found, nowhere, lost}
 use Rattle.rules.specs.Search as rule
-use Rattle.rules.specs.Rules.{Figures, Outcome, says, byteOf, nameOf, one, choose, listed, counted, released, firstFit, fromList, fromCache, serve, handOut, live, settled, takeBack}
+use Rattle.rules.specs.Rules.{Figures, Outcome, says, byteOf, nameOf, one, choose, listed, counted, released, letGo, withoutCache, firstFit, took, fromMerged, fromList, fromCache, serve, handOut, live, settled, takeBack}
 use Rattle.rules.specs.Rules as rules
 use Rattle.rules.specs.Making.{State, make, fresh}
 use Rattle.rules.specs.Demands.{hand, back}
@@ -43,9 +44,10 @@ use Rattle.heap.specs.declared.calls.Answer.{Answer}
 use Rattle.heap.specs.declared.calls.Answer.the-variants.{Done, ZeroSize, TooLarge, NoFit, NotLive, Damaged, BadLength}
 use Rattle.heap.specs.Seen.{seen, base, figuresOf, withCached, countedIn, countedOut, emptyRecord, freshRecord, FourPlaces}
 use Rattle.heap.specs.Kind.{placesOf}
-use Rattle.steps.specs.Chunk.{freed, leftFreeIn, rightFreeIn, emptiedIn, Releasable}
+use Rattle.steps.specs.Chunk.{freedIn, freed, leftFreeIn, rightFreeIn, emptiedIn, Releasable}
+use Rattle.steps.proofs.Neighbours.{freed-plain}
 use Rattle.heap.proofs.Joins.{emptied-seen}
-use Rattle.heap.specs.Answer.{outcome, soundAt, Served}
+use Rattle.heap.specs.Answer.{outcome, soundAt, Served, Fitting, Missed}
 use Rattle.cache.specs.Places.{cachedOf, usedPlaces, leftOut, choiceOf}
 use Rattle.cache.proofs.Laws.{Packed, packed, length-cached, set-last, turned, oldest-cached, choose-hit, choose-miss, listed-cached}
 use Rattle.rules.proofs.Store.{Edition}
@@ -57,12 +59,13 @@ use Rattle.rules.proofs.Bounds.{FoundFits, walked-fitᵇ, found-fitsᵇ, never-
 
 -- ---- MAKING
 
-pub one-chunk-by : (r q : Record) (ws ws1 ws2 ws3 : List ℕ) (n g b k : ℕ) → 1 ≤ n → g ≡ n - 1 → b ≡ 4 * g → ws1 ≡ freed ws 0 b → ws2 ≡ set ws1 g 2 → k ≡ classOf b
-    → seen q ws3 ≡ link base (seen r ws2) k 6 → seen q ws3 ≡ oneChunk base (seen r ws) (4 * (n - 1))
+pub one-chunk-by : (r q : Record) (ws ws1 ws2 ws3 : List ℕ) (n g b k : ℕ) → 1 ≤ n → n ≤ 65529 → g ≡ n - 1 → b ≡ 4 * g
+    → ws1 ≡ freedIn ws 0 b → ws2 ≡ set ws1 g 2 → k ≡ classOf b → seen q ws3 ≡ link base (seen r ws2) k 6 → seen q ws3 ≡ oneChunk base (seen r ws) (4 * (n - 1))
 unfolding oneChunk markFree freed
-one-chunk-by r q ws ws1 ws2 ws3 n g b k h eg eb e1 e2 ek eq =
+one-chunk-by r q ws ws1 ws2 ws3 n g b k h most eg eb e1 e2 ek eq =
+    let tags : ws1 ≡ freed ws 0 b = e1 ∙ freed-plain ws 0 b (omega arith) (omega arith) in
     let p : 4 * (n - 1) / 4 ≡ n - 1 = omega arith in
-    eq ∙ rw (e2, e1, ek, eb, eg) (rw p refl)
+    eq ∙ rw (e2, tags, ek, eb, eg) (rw p refl)
 
 pub make-short : (ws : List ℕ) → length ws < 5 → outcome BadLength (seen emptyRecord ws) ≡ make narrow 65529 ws
 unfolding make cachedOf
@@ -196,7 +199,9 @@ take-rest s w n z = go (leb (z + 12) n)
     marked : State
     marked = markUsed base (unlink base s (w + 6)) w (portion n z)
 
-    go : (t : Bool) → pick t (link base (markFree base marked (rightOf w z) (n - z)) (classOf (n - z)) (rightOf w z + 6)) (setLeft base marked (rightOf w n)) .rest ≡ s .rest
+    go : (t : Bool)
+        → pick t (link base (markFree base marked (rightOf w z) (n - z)) (classOf (n - z)) (rightOf w z + 6)) (setLeft base marked (rightOf w n)) .rest
+        ≡ s .rest
     go true = refl
     go false = refl
 
@@ -208,42 +213,67 @@ release-rest s w n = merge-rest s _ _ _ _
 figures-kept : (r a : Record) (ws ws1 : List ℕ) (w n z : ℕ) → seen a ws1 ≡ takeChunk base (seen r ws) w n z → figuresOf a ≡ figuresOf r
 figures-kept r a ws ws1 w n z e = ap (λ (s : State). s .rest) e ∙ take-rest (seen r ws) w n z
 
+-- what the code's walk finds the rules' search finds
 module _ (r : Record) (ws : List ℕ) (z : ℕ) (h : Served (seen r ws) z) where
-  -- what the code's walk finds the rules' search finds
   walks : (f : Found) → f ≡ walkedFit base (seen r ws) z → f ≡ firstFit base (seen r ws) z
   walks f e = e ∙ walked-fitᵇ (ours 4) (seen r ws) (h .sound) z
-
-  pub found-safe : (x c : ℕ) → rule.at x c ≡ walkedFit base (seen r ws) z → FoundFits base (seen r ws) z x c
-  found-safe x c e = found-fitsᵇ (ours 4) (seen r ws) (h .sound) z x c (sym (walks (rule.at x c) e))
-
-  pub figures-safe : FiguresFit base (seen r ws) 65529
-  figures-safe = figures-fitᵇ (ours 4) (seen r ws) (h .sound)
 
   pub listed-lost : lost ≡ walkedFit base (seen r ws) z
       → outcome Damaged (seen r ws) ≡ fromList base (seen r ws) z (firstFit base (seen r ws) z)
   listed-lost e = absurd (never-lostᵇ (ours 4) (seen r ws) (h .sound) z (sym (walks lost e)))
 
+  -- a search compares few
   pub nowhere-safe : (c : ℕ) → nowhere c ≡ walkedFit base (seen r ws) z → c < 65536
   nowhere-safe c e =
       let q = nowhere-shortᵇ (ours 4) (seen r ws) (h .sound) z c (sym (walks (nowhere c) e)) in
-      let f = figures-safe .accepted in
+      let f = figures-fitᵇ (ours 4) (seen r ws) (h .sound) .accepted in
       omega arith
 
-  pub listed-nowhere : (c d : ℕ) → d ≡ c → nowhere c ≡ walkedFit base (seen r ws) z
-      → outcome (NoFit d) (seen r ws) ≡ fromList base (seen r ws) z (firstFit base (seen r ws) z)
-  unfolding fromList
-  listed-nowhere c d ed e = subst (λ (f : Found). outcome (NoFit d) (seen r ws) ≡ fromList base (seen r ws) z f) (walks (nowhere c) e) (rw ed refl)
+  pub found-few : (x c : ℕ) → rule.at x c ≡ walkedFit base (seen r ws) z → c < 65536
+  found-few x c e =
+      let q = found-fitsᵇ (ours 4) (seen r ws) (h .sound) z x c (sym (walks (rule.at x c) e)) .counted in
+      let f = figures-fitᵇ (ours 4) (seen r ws) (h .sound) .accepted in
+      omega arith
 
-  -- TAKEN FROM A LIST: the bounds that the steps ask for
-  pub take-safe : (x c i n : ℕ) → rule.at x c ≡ walkedFit base (seen r ws) z → i ≡ x - 6 → n ≡ lengthOf (at ws i) → (6 ≤ x) × (x + n / 4 < 65536) × (c < 65536)
-  take-safe x c i n e ei en =
-      let q = found-safe x c e in
+  -- where it finds nothing, the rules go on with the cache emptied
+  pub missed : (c d : ℕ) → d ≡ c → nowhere c ≡ walkedFit base (seen r ws) z → Missed (seen r ws) z d
+  missed c d ed e = record { served = h; none = sym (walks (nowhere c) e) ∙ ap nowhere (sym ed) }
+
+  pub listed-nowhere : (o : Outcome State) (c d : ℕ) → d ≡ c → nowhere c ≡ walkedFit base (seen r ws) z
+      → o ≡ fromMerged base (seen r ws) z d (firstFit base (withoutCache base (seen r ws)) z)
+      → o ≡ fromList base (seen r ws) z (firstFit base (seen r ws) z)
+  unfolding fromList
+  listed-nowhere o c d ed e eo =
+      eo ∙ ap (λ (k : ℕ). fromMerged base (seen r ws) z k (firstFit base (withoutCache base (seen r ws)) z)) ed
+      ∙ ap (fromList base (seen r ws) z) (walks (nowhere c) e)
+
+  -- the chunk that it finds may be taken, and taking it is what the rules do
+  pub fitting : (x c : ℕ) → rule.at x c ≡ walkedFit base (seen r ws) z → Fitting (seen r ws) z x
+  fitting x c e = record { served = h; met = c; found = sym (walks (rule.at x c) e) }
+
+  pub listed-found : (o : Outcome State) (x c d : ℕ) → d ≡ c → rule.at x c ≡ walkedFit base (seen r ws) z
+      → o ≡ took base (seen r ws) z x d → o ≡ fromList base (seen r ws) z (firstFit base (seen r ws) z)
+  unfolding fromList
+  listed-found o x c d ed e eo = eo ∙ ap (λ (k : ℕ). took base (seen r ws) z x k) ed ∙ ap (fromList base (seen r ws) z) (walks (rule.at x c) e)
+
+-- TAKEN FROM A LIST: the chunk that link x names, for z bytes
+module _ (r : Record) (ws : List ℕ) (z x : ℕ) (h : Fitting (seen r ws) z x) where
+  found-safe : FoundFits base (seen r ws) z x (h .met)
+  found-safe = found-fitsᵇ (ours 4) (seen r ws) (h .served .sound) z x (h .met) (h .found)
+
+  figures-safe : FiguresFit base (seen r ws) 65529
+  figures-safe = figures-fitᵇ (ours 4) (seen r ws) (h .served .sound)
+
+  -- the bounds that the steps ask for
+  pub take-safe : (i n : ℕ) → i ≡ x - 6 → n ≡ lengthOf (at ws i) → (6 ≤ x) × (x + n / 4 < 65536)
+  take-safe i n ei en =
+      let q = found-safe in
       let f = figures-safe .accepted in
       let v : n ≡ lengthAt base (seen r ws) x = en ∙ ap (λ (j : ℕ). lengthOf (at ws j)) ei in
-      (q .named, omega arith, omega arith)
+      (q .named, omega arith)
 
   -- the portion is no more than the chunk, and where it ends
-  pub portion-room : (n m : ℕ) → m ≡ portion n z → m ≤ n
+  portion-room : (n m : ℕ) → m ≡ portion n z → m ≤ n
   portion-room n m e = go (leb (z + 12) n) refl
     where
       go : (t : Bool) → leb (z + 12) n ≡ t → m ≤ n
@@ -254,15 +284,14 @@ module _ (r : Record) (ws : List ℕ) (z : ℕ) (h : Served (seen r ws) z) where
   portion-8 n m n8 e = go (leb (z + 12) n) refl
     where
       go : (t : Bool) → leb (z + 12) n ≡ t → m % 8 ≡ 0
-      go true q = ap (λ (v : ℕ). v % 8) (e ∙ ap (λ (t : Bool). pick t z n) q) ∙ h .eights
+      go true q = ap (λ (v : ℕ). v % 8) (e ∙ ap (λ (t : Bool). pick t z n) q) ∙ h .served .eights
       go false q = ap (λ (v : ℕ). v % 8) (e ∙ ap (λ (t : Bool). pick t z n) q) ∙ n8
 
   -- both sums stay in range
-  pub count-safe : (a : Record) (ws1 : List ℕ) (x c i n m : ℕ) → rule.at x c ≡ walkedFit base (seen r ws) z
-      → i ≡ x - 6 → n ≡ lengthOf (at ws i) → m ≡ portion n z
+  pub count-safe : (a : Record) (ws1 : List ℕ) (i n m : ℕ) → i ≡ x - 6 → n ≡ lengthOf (at ws i) → m ≡ portion n z
       → seen a ws1 ≡ takeChunk base (seen r ws) (x - 6) n z → (a .«in_use» + m < 2 ^ 32) × (a .committed + m < 2 ^ 32)
-  count-safe a ws1 x c i n m ef ei en em ea =
-      let q = found-safe x c ef .room in
+  count-safe a ws1 i n m ei en em ea =
+      let q = found-safe .room in
       let f = figures-safe .accepted in
       let o = figures-safe .inUse in
       let v : n ≡ lengthAt base (seen r ws) x = en ∙ ap (λ (k : ℕ). lengthOf (at ws k)) ei in
@@ -272,13 +301,12 @@ module _ (r : Record) (ws : List ℕ) (z : ℕ) (h : Served (seen r ws) z) where
       let w : a .committed ≡ r .committed = ap (λ (g : Figures). g .committed) kept in
       (omega arith, omega arith)
 
-  pub listed-hit : (a q : Record) (ws1 ws2 : List ℕ) (x c i n m j e d : ℕ) (p : ByteOffset)
-      → rule.at x c ≡ walkedFit base (seen r ws) z → i ≡ x - 6 → n ≡ lengthOf (at ws i) → m ≡ portion n z
-      → seen a ws1 ≡ takeChunk base (seen r ws) (x - 6) n z → ws2 ≡ emptiedIn ws1 i m → j ≡ rightOf i m % 2 ^ 64 → e ≡ heldName offsets j → q ≡ countedIn a m e → p .0 ≡ heldName payloads i → d ≡ c
-      → outcome (Done p d) (seen q ws2) ≡ fromList base (seen r ws) z (firstFit base (seen r ws) z)
-  unfolding fromList
-  listed-hit a q ws1 ws2 x c i n m j e d p ef ei en em ea ec ej ee eq ep ed =
-      let g = found-safe x c ef in
+  pub found-taken : (a q : Record) (ws1 ws2 : List ℕ) (i n m j e c : ℕ) (p : ByteOffset)
+      → i ≡ x - 6 → n ≡ lengthOf (at ws i) → m ≡ portion n z → seen a ws1 ≡ takeChunk base (seen r ws) (x - 6) n z → ws2 ≡ emptiedIn ws1 i m
+      → j ≡ rightOf i m % 2 ^ 64 → e ≡ heldName offsets j → q ≡ countedIn a m e → p .0 ≡ heldName payloads i
+      → outcome (Done p c) (seen q ws2) ≡ took base (seen r ws) z x c
+  found-taken a q ws1 ws2 i n m j e c p ei en em ea ec ej ee eq ep =
+      let g = found-safe in
       let f = figures-safe .accepted in
       let v : n ≡ lengthAt base (seen r ws) x = en ∙ ap (λ (k : ℕ). lengthOf (at ws k)) ei in
       let n8 : n % 8 ≡ 0 = ap (λ (k : ℕ). k % 8) v ∙ g .eights in
@@ -290,12 +318,12 @@ module _ (r : Record) (ws : List ℕ) (z : ℕ) (h : Served (seen r ws) z) where
       let pay : p .0 ≡ byteOf x + 4 = payload-place x i (p .0) ei low ep in
       let kept = figures-kept r a ws ws1 (x - 6) n z ea in
       let state : seen q ws1 ≡ base .setRest (takeChunk base (seen r ws) (x - 6) n z) (counted (figuresOf r) m (byteOf x + m)) =
-      rw (eq, end) (ap (λ (k : Figures). base .setRest (seen a ws1) (counted k m (byteOf x + m))) kept ∙ ap (λ (s : State). base .setRest s (counted (figuresOf r) m (byteOf x + m))) ea) in
+      rw (eq, end) (ap (λ (k : Figures). base .setRest (seen a ws1) (counted k m (byteOf x + m))) kept
+      ∙ ap (λ (s : State). base .setRest s (counted (figuresOf r) m (byteOf x + m))) ea) in
       let empty : seen q ws2 ≡ emptied base (base .setRest (takeChunk base (seen r ws) (x - 6) n z) (counted (figuresOf r) m (byteOf x + m))) (x - 6) m =
       ap (λ (vs : List ℕ). seen q vs) ec ∙ emptied-seen q ws1 i m ∙ ap (λ (s : State). emptied base s i m) state
       ∙ ap (λ (k : ℕ). emptied base (base .setRest (takeChunk base (seen r ws) (x - 6) n z) (counted (figuresOf r) m (byteOf x + m))) k m) ei in
-      subst (λ (k : Found). outcome (Done p d) (seen q ws2) ≡ fromList base (seen r ws) z k) (walks (rule.at x c) ef)
-      (rw (empty, pay, ed, em, v) refl)
+      rw (empty, pay, em, v) refl
 
 -- ---- WHAT IS LIVE
 
@@ -304,37 +332,78 @@ module _ (r : Record) (ws : List ℕ) (p : ℕ) where
   unfolding live
   live-low h = rw (lt-leb _ _ h) refl
 
-  -- its link stands in a place of the cache
+  -- its link is among the cached chunks' exactly where it stands in a place of the cache
+  among : 4 ≤ p → listed ((p - 4) / 4 + 6) (cachedOf (numbers (r .cached))) ≡ listed ((p - 4) / 4 + 6) (numbers (r .cached))
+  among h = listed-cached ((p - 4) / 4 + 6) (numbers (r .cached)) (λ q. omega arith)
+
+  -- it does
   pub live-cached : (b : Bool) → 4 ≤ p → b ≡ listed ((p - 4) / 4 + 6) (numbers (r .cached)) → b ≡ true → 0 ≡ live base (seen r ws) p
   unfolding live
   live-cached b h e t =
-      let c : listed ((p - 4) / 4 + 6) (cachedOf (numbers (r .cached))) ≡ true = listed-cached ((p - 4) / 4 + 6) (numbers (r .cached)) (λ q. omega arith) ∙ sym e ∙ t in
+      let c : listed ((p - 4) / 4 + 6) (cachedOf (numbers (r .cached))) ≡ true = among h ∙ sym e ∙ t in
       rw (le-leb _ _ h, c) refl
 
-  -- or in none
+  -- or does not
   pub live-other : (b : Bool) (v : ℕ) → 4 ≤ p → b ≡ listed ((p - 4) / 4 + 6) (numbers (r .cached)) → b ≡ false → v ≡ usedWalk (at ws) (length ws) 0 (p - 4)
       → v ≡ live base (seen r ws) p
   unfolding live
   live-other b v h e t ev =
-      let c : listed ((p - 4) / 4 + 6) (cachedOf (numbers (r .cached))) ≡ false = listed-cached ((p - 4) / 4 + 6) (numbers (r .cached)) (λ q. omega arith) ∙ sym e ∙ t in
+      let c : listed ((p - 4) / 4 + 6) (cachedOf (numbers (r .cached))) ≡ false = among h ∙ sym e ∙ t in
       rw (le-leb _ _ h, c) (ev ∙ used-tile (at ws) (length ws) 0 (p - 4))
+
+-- ---- THE OLDEST CACHED CHUNK, in the first place
+
+abbrev pub oldest : Record → ℕ
+oldest r = getD (r .cached) 0 (record { 0 = 0 }) .0
+
+-- a chunk stands there: it is cached before the others
+module _ (r : Record) (ws : List ℕ) (used : 0 < usedPlaces (numbers (r .cached))) where
+  abbrev newer : List ℕ
+  newer = drop 1 (cachedOf (numbers (r .cached)))
+
+  pub oldest-first : cachedOf (numbers (r .cached)) ≡ oldest r ∷ newer
+  oldest-first = oldest-cached (numbers (r .cached)) used ∙ ap (λ (x : ℕ). x ∷ newer) (numbers-at (r .cached) 0)
+
+  -- the bounds that releasing it asks for
+  pub oldest-safe : soundAt 4 (seen r ws) ≡ true → (i n : ℕ) → i ≡ oldest r - 6 → n ≡ lengthOf (at ws i) → Releasable ws (oldest r) n
+  unfolding leftFree rightFree leftFreeIn rightFreeIn
+  oldest-safe ok i n ei en =
+      let m : Mem (oldest r) (cachedOf (numbers (r .cached))) = subst (λ (ks : List ℕ). Mem (oldest r) ks) (sym oldest-first) (List·Memᴰ·head refl) in
+      let v : n ≡ lengthAt base (seen r ws) (oldest r) = en ∙ ap (λ (j : ℕ). lengthOf (at ws j)) ei in
+      let c = cached-fitsᵇ (ours 4) (seen r ws) ok (oldest r) m in
+      let f = release-fitsᵇ (ours 4) (seen r ws) ok (oldest r) m in
+      let a = figures-fitᵇ (ours 4) (seen r ws) ok .accepted in
+      rw v (record { chunk = c .named; left = f .left; right = let k = f .right in let g = c .named in omega arith })
+
+  -- RELEASED, tasks holding u bytes and ks staying cached
+  pub oldest-out : (a q : Record) (ws1 ks : List ℕ) (c : List Link) (i n u : ℕ) → i ≡ oldest r - 6 → n ≡ lengthOf (at ws i)
+      → seen a ws1 ≡ releaseChunk base (seen r ws) (oldest r - 6) n → cachedOf (numbers c) ≡ ks → q ≡ countedOut a u n c
+      → seen q ws1 ≡ letGo base (seen r ws) u (oldest r) ks
+  oldest-out a q ws1 ks c i n u ei en ea ec eq =
+      let v : n ≡ lengthAt base (seen r ws) (oldest r) = en ∙ ap (λ (m : ℕ). lengthOf (at ws m)) ei in
+      let figures : figuresOf a ≡ figuresOf r = ap (λ (s : State). s .rest) ea ∙ release-rest (seen r ws) (oldest r - 6) n in
+      rw (eq, ec) (ap (λ (f : Figures). base .setRest (seen a ws1) (released f u ks n)) figures
+      ∙ ap (λ (s : State). base .setRest s (released (figuresOf r) u ks n)) ea)
+      ∙ ap (λ (m : ℕ). base .setRest (releaseChunk base (seen r ws) (oldest r - 6) m) (released (figuresOf r) u ks m)) v
 
 -- ---- TAKEN BACK
 
--- the newest stays beside the others where there are places enough; else the oldest is released
+-- the newest stays with the others if there are places enough; else the oldest is released
 module _ (places : ℕ) (s : State) (u : ℕ) where
-  settled-keep : (ks : List ℕ) (l : ℕ) → length (ks ++ l ∷ []) ≤ places → settled base places s u (ks ++ l ∷ []) ≡ base .setRest s (rules.withCached (s .rest) u (ks ++ l ∷ []))
+  settled-keep : (ks : List ℕ) (l : ℕ) → length (ks ++ l ∷ []) ≤ places
+      → settled base places s u (ks ++ l ∷ []) ≡ base .setRest s (rules.withCached (s .rest) u (ks ++ l ∷ []))
   unfolding settled
   settled-keep [] l h = rw (le-leb _ _ h)
   settled-keep (k ∷ ks) l h = rw (le-leb _ _ h)
 
   settled-let : (k : ℕ) (ks : List ℕ) → places < length (k ∷ ks)
-      → settled base places s u (k ∷ ks) ≡ base .setRest (releaseChunk base s (k - 6) (lengthAt base s k)) (released (s .rest) u ks (lengthAt base s k))
+      → settled base places s u (k ∷ ks) ≡ letGo base s u k ks
   unfolding settled
   settled-let k ks h = rw (lt-leb _ _ h)
 
--- so many places are used
-module _ (places : ℕ) (r : Record) (ws : List ℕ) (u : ℕ) (l : Link) (k : ℕ) (ok : soundAt 4 (seen r ws) ≡ true) (ek : k ≡ usedPlaces (numbers (r .cached))) where
+-- k places are used
+module _ (places : ℕ) (r : Record) (ws : List ℕ) (u : ℕ) (l : Link) (k : ℕ)
+    (ok : soundAt 4 (seen r ws) ≡ true) (ek : k ≡ usedPlaces (numbers (r .cached))) where
   -- the cached chunks, and how many they are
   abbrev kept : List ℕ
   kept = cachedOf (numbers (r .cached))
@@ -350,50 +419,35 @@ module _ (places : ℕ) (r : Record) (ws : List ℕ) (u : ℕ) (l : Link) (k : �
       let n = length-numbers (r .cached) in
       let room : usedPlaces (numbers (r .cached)) < length (numbers (r .cached)) = omega (arith, n, four, few, hk, ek) in
       let new : cachedOf (numbers c) ≡ kept ++ l .0 ∷ [] =
-      ap cachedOf (ec ∙ ap (λ (j : ℕ). set (numbers (r .cached)) j (l .0)) ek) ∙ set-last (numbers (r .cached)) (l .0) (cache-packed r ws ok) (λ z. omega (arith, named, z)) room in
+      ap cachedOf (ec ∙ ap (λ (j : ℕ). set (numbers (r .cached)) j (l .0)) ek)
+      ∙ set-last (numbers (r .cached)) (l .0) (cache-packed r ws ok) (λ z. omega (arith, named, z)) room in
       ap (λ (t : Record). seen t ws) eq ∙ ap (λ (ks : List ℕ). base .setRest (seen r ws) (rules.withCached (figuresOf r) u ks)) new
       ∙ sym (settled-keep places (seen r ws) u kept (l .0) (omega (arith, more, many, hk)))
 
-  -- ALL ARE USED: the oldest one, in the first place
-  abbrev oldest : ℕ
-  oldest = getD (r .cached) 0 (record { 0 = 0 }) .0
-
+  -- ALL ARE USED: the oldest one is released
   module _ (full : places ≤ k) (some : 0 < places) where
     used : 0 < usedPlaces (numbers (r .cached))
     used = omega (arith, full, some, ek)
 
-    first : kept ≡ oldest ∷ drop 1 kept
-    first = oldest-cached (numbers (r .cached)) used ∙ ap (λ (x : ℕ). x ∷ drop 1 kept) (numbers-at (r .cached) 0)
-
-    pub settled-next : (a q : Record) (ws1 : List ℕ) (c d : List Link) (i n j : ℕ) → 6 ≤ l .0 → i ≡ oldest - 6 → n ≡ lengthOf (at ws i)
-        → seen a ws1 ≡ releaseChunk base (seen r ws) (oldest - 6) n → numbers d ≡ leftOut 0 (numbers (r .cached)) → j ≡ k - 1
+    pub settled-next : (a q : Record) (ws1 : List ℕ) (c d : List Link) (i n j : ℕ) → 6 ≤ l .0 → i ≡ oldest r - 6 → n ≡ lengthOf (at ws i)
+        → seen a ws1 ≡ releaseChunk base (seen r ws) (oldest r - 6) n → numbers d ≡ leftOut 0 (numbers (r .cached)) → j ≡ k - 1
         → numbers c ≡ set (numbers d) j (l .0) → q ≡ countedOut a u n c → seen q ws1 ≡ settled base places (seen r ws) u (kept ++ l .0 ∷ [])
     settled-next a q ws1 c d i n j named ei en ea ed ej ec eq =
         let ks = drop 1 kept ++ l .0 ∷ [] in
-        let v : n ≡ lengthAt base (seen r ws) oldest = en ∙ ap (λ (m : ℕ). lengthOf (at ws m)) ei in
+        let first = oldest-first r ws used in
         let last : j ≡ usedPlaces (numbers (r .cached)) - 1 = omega (arith, ej, ek) in
         let new : cachedOf (numbers c) ≡ drop 1 kept ++ l .0 ∷ [] =
         ap cachedOf (ec ∙ ap (λ (ys : List ℕ). set ys j (l .0)) ed ∙ ap (λ (m : ℕ). set (leftOut 0 (numbers (r .cached))) m (l .0)) last)
         ∙ turned (numbers (r .cached)) (l .0) (cache-packed r ws ok) (λ z. omega (arith, named, z)) used in
-        let figures : figuresOf a ≡ figuresOf r = ap (λ (s : State). s .rest) ea ∙ release-rest (seen r ws) (oldest - 6) n in
-        let state : seen q ws1 ≡ base .setRest (releaseChunk base (seen r ws) (oldest - 6) n) (released (figuresOf r) u (drop 1 kept ++ l .0 ∷ []) n) =
-        rw (eq, new) (ap (λ (f : Figures). base .setRest (seen a ws1) (released f u ks n)) figures ∙ ap (λ (s : State). base .setRest s (released (figuresOf r) u ks n)) ea) in
         let long = length-append (drop 1 kept) (l .0 ∷ []) in
-        let count : length kept ≡ length (oldest ∷ drop 1 kept) = ap length first in
-        let over : places < length (oldest ∷ (drop 1 kept ++ l .0 ∷ [])) = omega (arith, long, count, many, full) in
-        state ∙ ap (λ (m : ℕ). base .setRest (releaseChunk base (seen r ws) (oldest - 6) m) (released (figuresOf r) u ks m)) v
-        ∙ sym (settled-let places (seen r ws) u oldest ks over) ∙ ap (λ (xs : List ℕ). settled base places (seen r ws) u (xs ++ l .0 ∷ [])) (sym first)
+        let count : length kept ≡ length (oldest r ∷ drop 1 kept) = ap length first in
+        let over : places < length (oldest r ∷ (drop 1 kept ++ l .0 ∷ [])) = omega (arith, long, count, many, full) in
+        oldest-out r ws used a q ws1 ks c i n u ei en ea new eq
+        ∙ sym (settled-let places (seen r ws) u (oldest r) ks over) ∙ ap (λ (xs : List ℕ). settled base places (seen r ws) u (xs ++ l .0 ∷ [])) (sym first)
 
-    -- the bounds that releasing the oldest one asks for
-    pub settle-safe : (i n : ℕ) → i ≡ oldest - 6 → n ≡ lengthOf (at ws i) → Releasable ws oldest n
-    unfolding leftFree rightFree leftFreeIn rightFreeIn
-    settle-safe i n ei en =
-        let m : Mem oldest (cachedOf (numbers (r .cached))) = subst (λ (ks : List ℕ). Mem oldest ks) (sym first) (List·Memᴰ·head refl) in
-        let v : n ≡ lengthAt base (seen r ws) oldest = en ∙ ap (λ (j : ℕ). lengthOf (at ws j)) ei in
-        let c = cached-fitsᵇ (ours 4) (seen r ws) ok oldest m in
-        let f = release-fitsᵇ (ours 4) (seen r ws) ok oldest m in
-        let a = figures-fitᵇ (ours 4) (seen r ws) ok .accepted in
-        rw v (record { chunk = c .named; left = f .left; right = let k = f .right in let g = c .named in omega arith })
+    -- the bounds that releasing it asks for
+    pub settle-safe : (i n : ℕ) → i ≡ oldest r - 6 → n ≡ lengthOf (at ws i) → Releasable ws (oldest r) n
+    settle-safe = oldest-safe r ws used ok
 
 -- ---- THE TESTS, in their order
 
@@ -406,12 +460,13 @@ module _ (places : ℕ) (r : Record) (ws : List ℕ) where
   unfolding handOut
   hand-large size h k = rw (ne-eqb _ _ h, lt-ltb _ _ k) refl
 
-  pub hand-damaged : (size : ℕ) (b : Bool) → (size ≡ 0 → ⊥) → size ≤ 4294967284 → b ≡ soundAt places (seen r ws) → b ≡ false → outcome Damaged (seen r ws) ≡ hand base 65529 places (seen r ws) size
+  pub hand-damaged : (size : ℕ) (b : Bool) → (size ≡ 0 → ⊥) → size ≤ 4294967284 → b ≡ soundAt places (seen r ws) → b ≡ false
+      → outcome Damaged (seen r ws) ≡ hand base 65529 places (seen r ws) size
   unfolding handOut
   hand-damaged size b h k e f = rw (ne-eqb _ _ h, le-ltb _ _ k, sym e ∙ f) refl
 
-  pub hand-served : (size z v : ℕ) (b : Bool) (o : Outcome State) → (size ≡ 0 → ⊥) → size ≤ 4294967284 → b ≡ soundAt places (seen r ws) → b ≡ true → v ≡ roundedOf size → z ≡ v
-      → o ≡ serve base (seen r ws) z → o ≡ hand base 65529 places (seen r ws) size
+  pub hand-served : (size z v : ℕ) (b : Bool) (o : Outcome State) → (size ≡ 0 → ⊥) → size ≤ 4294967284 → b ≡ soundAt places (seen r ws) → b ≡ true
+      → v ≡ roundedOf size → z ≡ v → o ≡ serve base (seen r ws) z → o ≡ hand base 65529 places (seen r ws) size
   unfolding handOut
   hand-served size z v b o h k e f ev ez eo = rw (ne-eqb _ _ h, le-ltb _ _ k, sym e ∙ f, ← ev, ← ez) eo
 
@@ -419,18 +474,21 @@ module _ (places : ℕ) (r : Record) (ws : List ℕ) where
   unfolding takeBack
   back-damaged p b e f = rw (sym e ∙ f) refl
 
-  pub back-dead : (p n : ℕ) (b : Bool) → b ≡ soundAt places (seen r ws) → b ≡ true → n ≡ live base (seen r ws) p → n ≡ 0 → outcome NotLive (seen r ws) ≡ back base 65529 places (seen r ws) p
+  pub back-dead : (p n : ℕ) (b : Bool) → b ≡ soundAt places (seen r ws) → b ≡ true → n ≡ live base (seen r ws) p → n ≡ 0
+      → outcome NotLive (seen r ws) ≡ back base 65529 places (seen r ws) p
   unfolding takeBack
   back-dead p n b e f en z = rw (sym e ∙ f, eq-eqb _ _ (sym en ∙ z)) refl
 
-  pub live-name : (p n i l : ℕ) (b : Bool) → b ≡ soundAt places (seen r ws) → b ≡ true → n ≡ live base (seen r ws) p → (n ≡ 0 → ⊥) → i ≡ payloads .word p → l ≡ heldName links i → l ≡ nameOf (p - 4)
+  pub live-name : (p n i l : ℕ) (b : Bool) → b ≡ soundAt places (seen r ws) → b ≡ true → n ≡ live base (seen r ws) p → (n ≡ 0 → ⊥)
+      → i ≡ payloads .word p → l ≡ heldName links i → l ≡ nameOf (p - 4)
   live-name p n i l b e f en d ei el =
       let q = live-fitsᵇ (ours places) (seen r ws) (sym e ∙ f) p (λ k. d (en ∙ k)) in
       let a = figures-fitᵇ (ours places) (seen r ws) (sym e ∙ f) .accepted in
       let u = q .inside in
       omega arith
 
-  pub back-done : (q : Record) (ws1 : List ℕ) (p n u l m : ℕ) (b : Bool) → m ≡ places → b ≡ soundAt places (seen r ws) → b ≡ true → n ≡ live base (seen r ws) p → (n ≡ 0 → ⊥) → u ≡ r .«in_use» - n → l ≡ nameOf (p - 4)
+  pub back-done : (q : Record) (ws1 : List ℕ) (p n u l m : ℕ) (b : Bool) → m ≡ places → b ≡ soundAt places (seen r ws) → b ≡ true
+      → n ≡ live base (seen r ws) p → (n ≡ 0 → ⊥) → u ≡ r .«in_use» - n → l ≡ nameOf (p - 4)
       → seen q ws1 ≡ settled base m (seen r ws) u (cachedOf (numbers (r .cached)) ++ l ∷ []) → says 0 0 0 (seen q ws1) ≡ back base 65529 places (seen r ws) p
   unfolding takeBack
   back-done q ws1 p n u l m b em e f en d eu el eq =
@@ -439,7 +497,8 @@ module _ (places : ℕ) (r : Record) (ws : List ℕ) where
       rw (sym e ∙ f, ne-eqb _ _ d′) (ap (says 0 0 0) (eq ∙ rw (em, el, h) refl))
 
 -- what a kind's audit passed may be served
-pub rounded-served : (k : Kind) (r : Record) (ws : List ℕ) (size v : ℕ) (b : Bool) → b ≡ soundAt (placesOf k) (seen r ws) → b ≡ true → v ≡ roundedOf size → Served (seen r ws) v
+pub rounded-served : (k : Kind) (r : Record) (ws : List ℕ) (size v : ℕ) (b : Bool)
+    → b ≡ soundAt (placesOf k) (seen r ws) → b ≡ true → v ≡ roundedOf size → Served (seen r ws) v
 rounded-served k r ws size v b e f ev = record { sound = sound-four k (seen r ws) b e f; least = omega arith; eights = ap (λ (k : ℕ). k % 8) ev ∙ eights-of }
   where
     eights-of : roundedOf size % 8 ≡ 0

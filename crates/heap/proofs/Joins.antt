@@ -24,11 +24,12 @@ use Rattle.rules.specs.Making.{State}
 use Rattle.heap.specs.declared.record.Record.{Record}
 use Rattle.heap.specs.Seen.{seen, base, withPrevs, withNexts, stored}
 use Rattle.heap.specs.Released.{freeListed}
-use Rattle.steps.specs.Chunk.{freed, leftFreeIn, rightFreeIn, clearedIn, emptiedIn, caseOf, Releasable}
+use Rattle.steps.specs.Chunk.{freedIn, freed, leftFreeIn, rightFreeIn, clearedIn, emptiedIn, caseOf, Releasable}
 use Rattle.steps.specs.declared.merge.Merged.{Merged}
 use Rattle.steps.specs.Merged.{mergedIn, plainBy}
-use Rattle.steps.specs.Found.{walkIn}
-use Rattle.steps.proofs.Neighbours.{merged-plain}
+use Rattle.steps.specs.declared.search.Found.{Found}
+use Rattle.steps.specs.Found.{told, walkIn}
+use Rattle.steps.proofs.Neighbours.{freed-plain, merged-plain}
 
 -- storing a sentinel's link, as numbers
 pub numbers-stored : (ls : List Link) (l : ℕ) (v : Link) → numbers (stored ls l v) ≡ setSentinel (numbers ls) l (v .0)
@@ -56,10 +57,12 @@ pub next-chunk : (s : State) (x : ℕ) → 6 ≤ x → base .next s x ≡ linkAt
 next-chunk s x h = rw (le-ltb x 6 h)
 
 -- storing node x's next link: the record's half and the words' half
-pub next-stored : (r : Record) (ws : List ℕ) (x : ℕ) (v : Link) → seen (withNexts r (stored (r .next) x v)) (setChunkLink narrow next ws x (v .0)) ≡ base .setNext (seen r ws) x (v .0)
+pub next-stored : (r : Record) (ws : List ℕ) (x : ℕ) (v : Link)
+    → seen (withNexts r (stored (r .next) x v)) (setChunkLink narrow next ws x (v .0)) ≡ base .setNext (seen r ws) x (v .0)
 next-stored r ws x v = rw (numbers-stored (r .next) x v)
 
-pub prev-stored : (r : Record) (ws : List ℕ) (x : ℕ) (v : Link) → seen (withPrevs r (stored (r .prev) x v)) (setChunkLink narrow prev ws x (v .0)) ≡ base .setPrev (seen r ws) x (v .0)
+pub prev-stored : (r : Record) (ws : List ℕ) (x : ℕ) (v : Link)
+    → seen (withPrevs r (stored (r .prev) x v)) (setChunkLink narrow prev ws x (v .0)) ≡ base .setPrev (seen r ws) x (v .0)
 prev-stored r ws x v = rw (numbers-stored (r .prev) x v)
 
 pub unlink-at : (s : State) (x p q : ℕ) → p ≡ base .prev s x → q ≡ base .next s x → unlink base s x ≡ base .setPrev (base .setNext s p q) q p
@@ -78,13 +81,16 @@ unlink-by r a b ws ws1 ws2 p q x h ep eq ea e1 eb e2 =
     ∙ sym (unlink-at (seen r ws) x (p .0) (q .0) (ep ∙ sym (prev-chunk (seen r ws) x h)) (eq ∙ sym (next-chunk (seen r ws) x h)))
 
 -- a chunk's store is the words' alone, a sentinel's the record's alone
-pub set-next-chunk : (s : State) (x v : ℕ) → 6 ≤ x → base .setNext s x v ≡ record { prevs = s .prevs; nexts = s .nexts; words = setLinkAt narrow next (s .words) (x - 6) v; rest = s .rest }
+pub set-next-chunk : (s : State) (x v : ℕ) → 6 ≤ x
+    → base .setNext s x v ≡ record { prevs = s .prevs; nexts = s .nexts; words = setLinkAt narrow next (s .words) (x - 6) v; rest = s .rest }
 set-next-chunk s x v h = rw (le-ltb x 6 h)
 
-pub set-prev-chunk : (s : State) (x v : ℕ) → 6 ≤ x → base .setPrev s x v ≡ record { prevs = s .prevs; nexts = s .nexts; words = setLinkAt narrow prev (s .words) (x - 6) v; rest = s .rest }
+pub set-prev-chunk : (s : State) (x v : ℕ) → 6 ≤ x
+    → base .setPrev s x v ≡ record { prevs = s .prevs; nexts = s .nexts; words = setLinkAt narrow prev (s .words) (x - 6) v; rest = s .rest }
 set-prev-chunk s x v h = rw (le-ltb x 6 h)
 
-pub set-next-sentinel : (r : Record) (ws : List ℕ) (k : ℕ) (v : Link) → k < 6 → seen (withNexts r (stored (r .next) k v)) ws ≡ base .setNext (seen r ws) k (v .0)
+pub set-next-sentinel : (r : Record) (ws : List ℕ) (k : ℕ) (v : Link) → k < 6
+    → seen (withNexts r (stored (r .next) k v)) ws ≡ base .setNext (seen r ws) k (v .0)
 set-next-sentinel r ws k v h = rw (numbers-stored (r .next) k v, lt-ltb k 6 h)
 
 -- a sentinel's next link, as the code reads it
@@ -106,7 +112,9 @@ link-by r a b ws ws1 ws2 ws3 n k l hk hx en ea eb e1 e2 e3 =
     let second : seen b ws1 ≡ base .setPrev (seen a ws) (n .0) x = rw (eb, e1) (prev-stored a ws (n .0) l) in
     let third : seen b ws2 ≡ base .setNext (seen b ws1) x (n .0) = rw e2 (sym (set-next-chunk (seen b ws1) x (n .0) hx)) in
     let fourth : seen b ws3 ≡ base .setPrev (seen b ws2) x k = rw e3 (sym (set-prev-chunk (seen b ws2) x k hx)) in
-    fourth ∙ ap (λ (s : State). base .setPrev s x k) (third ∙ ap (λ (s : State). base .setNext s x (n .0)) (second ∙ ap (λ (s : State). base .setPrev s (n .0) x) first))
+    fourth
+    ∙ ap (λ (s : State). base .setPrev s x k)
+    (third ∙ ap (λ (s : State). base .setNext s x (n .0)) (second ∙ ap (λ (s : State). base .setPrev s (n .0) x) first))
     ∙ sym (link-at (seen r ws) k x (n .0) en)
 
 -- MERGING, by the number of the case
@@ -148,21 +156,24 @@ pub right-place : (w n j : ℕ) → w < 2 ^ 32 → n < 2 ^ 32 → j ≡ rightOf 
 right-place w n j hw hn e = omega arith
 
 -- SPLITTING: the whole chunk is used; or the rest is a free chunk, listed
-pub excess-whole : (r : Record) (ws ws1 : List ℕ) (w n z e j : ℕ) → w < 2 ^ 32 → n < 2 ^ 32 → e ≡ n - z → e < 12 → j ≡ rightOf w n % 2 ^ 64 → ws1 ≡ changed leftUsed ws j
+pub excess-whole : (r : Record) (ws ws1 : List ℕ) (w n z e j : ℕ)
+    → w < 2 ^ 32 → n < 2 ^ 32 → e ≡ n - z → e < 12 → j ≡ rightOf w n % 2 ^ 64 → ws1 ≡ changed leftUsed ws j
     → seen r ws1 ≡ returnExcess base (seen r ws) w n z
 unfolding returnExcess setLeft changed
 excess-whole r ws ws1 w n z e j hw hn ee h ej e1 =
     let k : n < z + 12 = omega arith in
     rw (lt-leb _ _ k, e1, right-place w n j hw hn ej)
 
-pub excess-cut : (r q : Record) (ws ws1 ws2 : List ℕ) (w n z e j k x : ℕ) → w + n / 4 + 6 < 65536 → z < 2 ^ 32 → e ≡ n - z → 12 ≤ e → j ≡ rightOf w z % 2 ^ 64 → ws1 ≡ freed ws j e
+pub excess-cut : (r q : Record) (ws ws1 ws2 : List ℕ) (w n z e j k x : ℕ)
+    → w + n / 4 + 6 < 65536 → z < 2 ^ 32 → e ≡ n - z → 12 ≤ e → j ≡ rightOf w z % 2 ^ 64 → ws1 ≡ freedIn ws j e
     → k ≡ classOf e → x ≡ heldName links j → seen q ws2 ≡ link base (seen r ws1) k x → seen q ws2 ≡ returnExcess base (seen r ws) w n z
 unfolding returnExcess markFree freed
 excess-cut r q ws ws1 ws2 w n z e j k x hw hz ee h ej e1 ek ex eq =
     let c : z + 12 ≤ n = omega arith in
     let pj : j ≡ rightOf w z = right-place w z j (omega arith) hz ej in
     let px : x ≡ j + 6 = held-name j x (omega arith) ex in
-    rw (le-leb _ _ c) (eq ∙ rw (e1, ek, px, pj, ee) refl)
+    let tags : ws1 ≡ freed ws j e = e1 ∙ freed-plain ws j e (omega arith) (omega arith) in
+    rw (le-leb _ _ c) (eq ∙ rw (tags, ek, px, pj, ee) refl)
 
 -- TAKING
 pub take-by : (r a q : Record) (ws ws1 ws2 ws3 : List ℕ) (x w n z m : ℕ) → 6 ≤ x → w ≡ x - 6 → seen a ws1 ≡ unlink base (seen r ws) x → m ≡ portion n z
@@ -174,13 +185,14 @@ take-by r a q ws ws1 ws2 ws3 x w n z m hx ew ea em e2 eq =
 
 -- A FREE CHUNK TAGGED AND LISTED
 pub free-listed-by : (r q : Record) (ws ws1 ws2 ws3 : List ℕ) (i m j k l : ℕ) → i + 6 < 65536 → m < 2 ^ 32
-    → ws1 ≡ freed ws i m → j ≡ rightOf i m % 2 ^ 64 → ws2 ≡ changed leftFreed ws1 j → k ≡ classOf m → l ≡ heldName links i
+    → ws1 ≡ freedIn ws i m → j ≡ rightOf i m % 2 ^ 64 → ws2 ≡ changed leftFreed ws1 j → k ≡ classOf m → l ≡ heldName links i
     → seen q ws3 ≡ link base (seen r ws2) k l → seen q ws3 ≡ freeListed (seen r ws) i m
 unfolding freeListed clearLeft markFree freed changed
 free-listed-by r q ws ws1 ws2 ws3 i m j k l hi hm e1 ej e2 ek el eq =
     let pl : l ≡ i + 6 = held-name i l hi el in
     let pj : j ≡ rightOf i m = right-place i m j (omega arith) hm ej in
-    eq ∙ rw (ek, pl, e2, e1, pj) refl
+    let tags : ws1 ≡ freed ws i m = e1 ∙ freed-plain ws i m (omega arith) hm in
+    eq ∙ rw (ek, pl, e2, tags, pj) refl
 
 -- RELEASING: the merged chunk lies in the space that links can name
 pub release-room : (ws : List ℕ) (x n : ℕ) (g : Merged) → Releasable ws x n → g ≡ mergedIn ws x n
@@ -218,6 +230,11 @@ pub first-fit-is : (r : Record) (ws : List ℕ) (z : ℕ)
     → walkedFit base (seen r ws) z ≡ searchAll (walkIn (numbers (r .next)) ws z (length ws / 4)) (6 - startOf z) (startOf z) 0
 unfolding walkedFit walkIn
 first-fit-is r ws z = refl
+
+-- and by the case of what it says
+pub met : (r : Record) (ws : List ℕ) (z : ℕ) (q p : Found) → told q ≡ searchAll (walkIn (numbers (r .next)) ws z (length ws / 4)) (6 - startOf z) (startOf z) 0
+    → q ≡ p → told p ≡ walkedFit base (seen r ws) z
+met r ws z q p e h = sym (ap (λ (f : Found). told f) h) ∙ e ∙ sym (first-fit-is r ws z)
 
 -- EMPTYING, on record and words
 cleared-seen : (r : Record) (ws : List ℕ) (i k : ℕ) → seen r (clearedIn ws i k) ≡ cleared base (seen r ws) i k

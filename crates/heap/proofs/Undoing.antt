@@ -8,7 +8,7 @@ use mathlib.Core.List.{List, [], _∷_, List·Memᴰ, List·Memᴰ·head, List·
 use Prim.Native.Nat.{ℕ, _+_, _-_, _/_, _^_, _≤_, _<_}
 use native.Mathlib.Omega.{arith}
 use borrow.Author.Tests.{lt-ltb}
-use lib.ListN.{getD}
+use lib.ListN.{length, getD}
 use Rattle.words.specs.Links.{narrow, prev, next, linkAt, setChunkLink}
 use Rattle.words.specs.Sizes.{classOf}
 use Rattle.words.specs.Tags.{rightOf, footerOf, leftFreed, changed}
@@ -18,8 +18,8 @@ use Rattle.rules.specs.Steps.{unlink, link, markFree, clearLeft, merge, release
 use Rattle.steps.specs.declared.merge.Merged.{Merged}
 use Rattle.steps.specs.Chunk.{freed, Releasable}
 use Rattle.steps.specs.Merged.{mergedIn}
-use Rattle.steps.specs.Undone.{Notes, Undoes, tagPlaces}
-use Rattle.steps.proofs.Undone.{Changed, notes-more, undo-by, undo-none, undo-on, changes-none, changes-word, changes-node, changes-freed}
+use Rattle.steps.specs.Undone.{Room, Noting, Undoes, tagPlaces}
+use Rattle.steps.proofs.Undone.{Changed, room-within, room-next, notes-more, undo-by, undo-none, undo-on, changes-none, changes-word, changes-node, changes-freed}
 use Rattle.heap.specs.declared.record.Record.{Record}
 use Rattle.heap.specs.declared.undo.Noted.{Noted}
 use Rattle.heap.specs.Seen.{seen, base}
@@ -45,11 +45,14 @@ unlink-changes s x p n h ep en =
 
 pub unlink-noted-by : (r q : Record) (ws us log log1 log2 : List ℕ) (k a b p n x : ℕ) (on : Bool) → on ≡ true → 6 ≤ x
     → p ≡ linkAt narrow prev ws (x - 6) → n ≡ linkAt narrow next ws (x - 6)
-    → Notes ws ((p - 6 + 1) ∷ []) log k log1 a → Notes ws ((n - 6 + 1) ∷ []) log1 a log2 b
+    → Room ws log k 2 → length log1 ≡ length log
+    → Noting ws ((p - 6 + 1) ∷ []) log k log1 a → Noting ws ((n - 6 + 1) ∷ []) log1 a log2 b
     → seen q us ≡ unlink base (seen r ws) x → Undoable (unlinkIf on (seen r ws) x) 2 ws log k us log2 (record { rec = q; k = b })
 unfolding unlinkIf
-unlink-noted-by r q ws us log log1 log2 k a b p n x on e h ep en np nn eq =
+unlink-noted-by r q ws us log log1 log2 k a b p n x on e h ep en room long one two eq =
     let ps = (n - 6 + 1) ∷ (p - 6 + 1) ∷ [] in
+    let np = one (room-within 2 1 ws log k (omega arith) room) in
+    let nn = two (room-next 1 1 ws ((p - 6 + 1) ∷ []) log log1 k a refl room long np) in
     let both = notes-more ws ((p - 6 + 1) ∷ []) ((n - 6 + 1) ∷ []) log log1 log2 k a b np nn in
     let words : us ≡ unlink base (seen r ws) x .words = ap (λ (s : State). s .words) eq in
     let keeps : Changed ps ws us = rw words (unlink-changes (seen r ws) x p n h ep en) in
@@ -89,10 +92,15 @@ listed-changes r ws w m f ef =
 
 pub free-noted-by : (r q : Record) (ws us log log1 log2 log3 : List ℕ) (k a b d w m c f : ℕ)
     → c ≡ classOf m → f ≡ getD (r .next) c (record { 0 = 0 }) .0
-    → Notes ws (tagPlaces w m) log k log1 a → Notes ws ((f - 6 + 1) ∷ []) log1 a log2 b → Notes ws ((w + 1) ∷ []) log2 b log3 d
+    → w < 2 ^ 32 → Room ws log k 5 → length log1 ≡ length log → length log2 ≡ length log1
+    → (w < 2 ^ 32 → Noting ws (tagPlaces w m) log k log1 a) → Noting ws ((f - 6 + 1) ∷ []) log1 a log2 b → Noting ws ((w + 1) ∷ []) log2 b log3 d
     → seen q us ≡ freeListed (seen r ws) w m → Undoable (freeListed (seen r ws) w m) 5 ws log k us log3 (record { rec = q; k = d })
-free-noted-by r q ws us log log1 log2 log3 k a b d w m c f ec ef tags first own eq =
+free-noted-by r q ws us log log1 log2 log3 k a b d w m c f ec ef low room l1 l2 ntags nfirst nown eq =
     let ps = (w + 1) ∷ (f - 6 + 1) ∷ tagPlaces w m in
+    let tags = ntags low (room-within 5 3 ws log k (omega arith) room) in
+    let room2 = room-next 3 2 ws (tagPlaces w m) log log1 k a refl room l1 tags in
+    let first = nfirst (room-within 2 1 ws log1 a (omega arith) room2) in
+    let own = nown (room-next 1 1 ws ((f - 6 + 1) ∷ []) log1 log2 a b refl room2 l2 first) in
     let four = notes-more ws (tagPlaces w m) ((f - 6 + 1) ∷ []) log log1 log2 k a b tags first in
     let five = notes-more ws ((f - 6 + 1) ∷ tagPlaces w m) ((w + 1) ∷ []) log log2 log3 k b d four own in
     let words : us ≡ freeListed (seen r ws) w m .words = ap (λ (s : State). s .words) eq in

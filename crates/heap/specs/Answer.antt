@@ -3,7 +3,8 @@
 use mathlib.Core.Path.{_≡_}
 use mathlib.Core.Bool.{Bool, true}
 use Prim.Native.Nat.{ℕ, _≤_, _<_, _%_}
-use Rattle.rules.specs.Rules.{Outcome, says}
+use Rattle.rules.specs.Rules.{Outcome, says, firstFit}
+use Rattle.rules.specs.Search.{at, nowhere}
 use Rattle.rules.specs.Making.{State}
 use Rattle.rules.specs.Machine as rule
 use Rattle.rules.specs.Test.{soundᵇ}
@@ -46,3 +47,14 @@ pub record Served (s : State) (z : ℕ) : Type 0 where
   pub sound : soundAt 4 s ≡ true
   pub least : 16 ≤ z
   pub eights : z % 8 ≡ 0
+
+-- the search for a rounded size on this state found the chunk that link x names
+pub record Fitting (s : State) (z x : ℕ) : Type 0 where
+  pub served : Served s z
+  pub met : ℕ
+  pub found : firstFit base s z ≡ at x met
+
+-- or it compared c chunks and found none
+pub record Missed (s : State) (z c : ℕ) : Type 0 where
+  pub served : Served s z
+  pub none : firstFit base s z ≡ nowhere c

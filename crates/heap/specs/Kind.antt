@@ -3,7 +3,7 @@ use Prim.Native.Nat.{ℕ}
 use Rattle.heap.specs.declared.kind.Kind.{Kind}
 use Rattle.heap.specs.declared.kind.Kind.the-variants.{One, Four}
 
--- so many cache places
+-- how many cache places a kind has
 abbrev pub placesOf : Kind → ℕ
 placesOf One = 1
 placesOf Four = 4

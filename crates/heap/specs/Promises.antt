@@ -6,16 +6,17 @@ use Prim.Native.Nat.{ℕ}
 use lib.ListN.{length, set}
 use Rattle.words.specs.Links.{narrow}
 use Rattle.rules.specs.Making.{make}
-use Rattle.rules.specs.Rules.{live}
+use Rattle.rules.specs.Rules.{handOut, takeBack, live}
 use Rattle.rules.specs.Sound.{Shows, Sound}
-use Rattle.rules.specs.Demands.{NoFit, Holds, hand, back}
+use Rattle.rules.specs.Demands.{Holds}
+use Rattle.rules.specs.Promises.{Unfit}
 use Rattle.rules.specs.Machine.{Model, Request, ask, give}
 use Rattle.rules.specs.Machine as rule
 use Rattle.rules.specs.TwoRuns.{Event, asks, writes}
 use Rattle.heap.specs.declared.record.Record.{Record}
 use Rattle.heap.specs.declared.calls.Out.{Out}
 use Rattle.heap.specs.Seen.{seen, base}
-use Rattle.heap.specs.Answer.{said, number, outcome}
+use Rattle.heap.specs.Answer.{said, number, outcome, soundAt}
 
 -- making over the words ws gives o and the words vs
 abbrev pub Makes : List ℕ → Out → List ℕ → Type 0
@@ -28,11 +29,11 @@ liveIn r ws p = live base (seen r ws) p
 module _ (places : ℕ) where
   -- asked for a size, the record r over the words ws gives o and the words vs
   abbrev pub HandsOut : Record → List ℕ → ℕ → Out → List ℕ → Type 0
-  HandsOut r ws size o vs = outcome (o .answer) (seen (o .rec) vs) ≡ hand base 65529 places (seen r ws) size
+  HandsOut r ws size o vs = outcome (o .answer) (seen (o .rec) vs) ≡ handOut base (soundAt places) (seen r ws) size
 
   -- given back the payload at offset p, it gives o and the words vs
   abbrev pub TakesBack : Record → List ℕ → ℕ → Out → List ℕ → Type 0
-  TakesBack r ws p o vs = outcome (o .answer) (seen (o .rec) vs) ≡ back base 65529 places (seen r ws) p
+  TakesBack r ws p o vs = outcome (o .answer) (seen (o .rec) vs) ≡ takeBack base places (soundAt places) (seen r ws) p
 
   -- a request of either kind
   abbrev pub Calls : Request → Record → List ℕ → Out → List ℕ → Type 0
@@ -47,9 +48,9 @@ module _ (places : ℕ) where
   abbrev pub SoundIn : Record → List ℕ → Type 0
   SoundIn r ws = Sound base 65529 places (seen r ws)
 
-  -- nothing fits z bytes: record and words show a model where no cached chunk serves and no free one reaches the threshold
+  -- nothing fits z bytes: they are sound, no cached chunk serves, and no free chunk of the layout with the cache emptied reaches the threshold
   abbrev pub UnfitIn : Record → List ℕ → ℕ → Type 0
-  UnfitIn r ws z = (m : Model) × ShowsIn r ws m × NoFit m z
+  UnfitIn r ws z = Unfit base 65529 places (seen r ws) z
 
   -- word i lies in a payload that is live at this moment
   abbrev pub LiveIn : Record → List ℕ → ℕ → Type 0

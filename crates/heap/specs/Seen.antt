@@ -19,18 +19,14 @@ use Rattle.heap.specs.declared.record.Record.{Record}
 abbrev pub base : Ops State Figures
 base = ops narrow
 
--- what the record holds beside its links
+-- the cached chunks, oldest first, by their links
+abbrev pub cachedIn : Record → List ℕ
+cachedIn r = cachedOf (numbers (r .cached))
+
+-- what the record holds besides its links
 abbrev pub figuresOf : Record → Figures
 figuresOf r =
-    record {
-      words = r .words;
-      cached = cachedOf (numbers (r .cached));
-      inUse = r .«in_use»;
-      committed = r .committed;
-      peak = r .peak;
-      high = r .high;
-      flag = r .fresh;
-    }
+    record { words = r .words; cached = cachedIn r; inUse = r .«in_use»; committed = r .committed; peak = r .peak; high = r .high; flag = r .fresh }
 
 -- record and words
 abbrev pub seen : Record → List ℕ → State
@@ -98,8 +94,8 @@ noneCached = replicate 4 (link 0)
 
 -- the empty record, and the record of a heap of n words whose lists are empty
 abbrev pub emptyRecord : Record
-emptyRecord =
-    record { prev = replicate 6 (link 0); next = replicate 6 (link 0); cached = noneCached; words = 0; «in_use» = 0; committed = 0; peak = 0; high = 0; fresh = 0 }
+emptyRecord = let none = replicate 6 (link 0) in
+    record { prev = none; next = none; cached = noneCached; words = 0; «in_use» = 0; committed = 0; peak = 0; high = 0; fresh = 0 }
 
 abbrev pub freshRecord : ℕ → Record
 freshRecord n =

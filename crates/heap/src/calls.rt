@@ -6,14 +6,12 @@ ghost use mathlib.Core.Bool.{true};
 ghost use mathlib.Core.List.{[], _∷_, _++_};
 ghost use Prim.Native.Nat.{_-_, _*_, _≤_, _<_, _%_};
 ghost use lib.ListN.{length};
-ghost use Rattle.rules.specs.Rules.{Outcome, fromList, firstFit, serve, settled, live};
+ghost use Rattle.rules.specs.Rules.{withoutCache, firstFit, took, fromMerged, fromList, serve, settled, live};
 ghost use Rattle.rules.specs.Steps.{oneChunk};
-ghost use Rattle.heap.specs.Seen.{seen, base};
-ghost use Rattle.words.specs.Numbers.{numbers};
-ghost use Rattle.cache.specs.Places.{cachedOf};
+ghost use Rattle.heap.specs.Seen.{seen, base, cachedIn};
 ghost use Rattle.heap.specs.Kind.{placesOf};
 ghost use Rattle.heap.specs.Promises.{Makes, HandsOut, TakesBack};
-ghost use Rattle.heap.specs.Answer.{outcome, soundAt, Served};
+ghost use Rattle.heap.specs.Answer.{outcome, soundAt, Served, Fitting, Missed};
 use super::kind::Kind;
 use super::record::Record;
 use audit::Figures;
@@ -178,7 +176,7 @@ impl Record {
     // Caches the chunk l as the newest, `held` bytes being in use then; where all places are used, the oldest one is released first.
     fn settle(self, heap: &mut [u32], held: u32, l: Link, places: usize) -> Record
         requires { ⌜ (soundAt 4 (seen self (now heap)) ≡ true) × (6 ≤ l .0) × (0 < places) × (places ≤ 4) ⌝ }
-        ensures { λ r. ⌜ seen r (now (heap .exit)) ≡ settled base places (seen self (now (heap .entry))) held (cachedOf (numbers (self .cached)) ++ l .0 ∷ []) ⌝ }
+        ensures { λ r. ⌜ seen r (now (heap .exit)) ≡ settled base places (seen self (now (heap .entry))) held (cachedIn self ++ l .0 ∷ []) ⌝ }
     {
         let c = self.cached;
         let k = cache::used_places(c);
@@ -215,10 +213,11 @@ impl Record {
         self.serve_listed(heap, z)
     }
 
-    // Serves a rounded size on a sound heap from the lists; what is cleared is the chunk as finally cut.
+    // Serves a rounded size on a sound heap from the lists; if they have nothing, once more with the cache emptied.
     fn serve_listed(self, heap: &mut [u32], z: u32) -> Out
         requires { ⌜ Served (seen self (now heap)) z ⌝ }
-        ensures { λ r. ⌜ outcome (r .answer) (seen (r .rec) (now (heap .exit))) ≡ fromList base (seen self (now (heap .entry))) z (firstFit base (seen self (now (heap .entry))) z) ⌝ }
+        ensures { λ r. ⌜ outcome (r .answer) (seen (r .rec) (now (heap .exit)))
+            ≡ fromList base (seen self (now (heap .entry))) z (firstFit base (seen self (now (heap .entry))) z) ⌝ }
     {
         let next = self.next;
         let found = steps::search_first_fit(next, heap, z);
@@ -227,23 +226,65 @@ impl Record {
                 answer: Answer::Damaged,
                 rec: self,
             },
-            Found::Nothing(c) => Out {
-                answer: Answer::NoFit(c as u32),
+            Found::Nothing(c) => self.serve_merged(heap, z, c as u32),
+            Found::At(l, c) => self.take_found(heap, l, c as u32, z),
+        }
+    }
+
+    // Serves a rounded size that a search of a sound heap found nothing for, comparing c chunks: every cached chunk is released and the lists are
+    // searched again. If that finds nothing, the words are put back; the record at entry is still there. With nothing cached it would be the same search.
+    fn serve_merged(self, heap: &mut [u32], z: u32, c: u32) -> Out
+        requires { ⌜ Missed (seen self (now heap)) z c ⌝ }
+        ensures { λ r. ⌜ outcome (r .answer) (seen (r .rec) (now (heap .exit)))
+            ≡ fromMerged base (seen self (now (heap .entry))) z c (firstFit base (withoutCache base (seen self (now (heap .entry)))) z) ⌝ }
+    {
+        let cached = self.cached;
+        if cached[0].0 == 0 {
+            return Out {
+                answer: Answer::NoFit(c + c),
                 rec: self,
-            },
-            Found::At(l, c) => {
-                let hdr = words::link_to_hdr(l);
-                let n = words::get_hdr_chunk_size(heap, hdr);
-                let m = steps::portion_of(n, z);
-                let a = self.take_chunk(heap, l, n, z);
-                steps::clear_payload(heap, hdr, m);
-                let end = words::hdr_to_offset(words::hdr_to_right_hdr(hdr, m));
-                let rec = a.count_in(m, end.0);
+            };
+        }
+        let mut log = [0u32; 72];
+        let e = self.empty_cache(heap, &mut log);
+        let rec = e.rec;
+        let notes = e.k;
+        let next = rec.next;
+        let found = steps::search_first_fit(next, heap, z);
+        match found {
+            Found::Lost => {
+                steps::put_back(heap, &log, notes);
                 Out {
-                    answer: Answer::Done(words::hdr_to_payload(hdr), c as u32),
-                    rec,
+                    answer: Answer::Damaged,
+                    rec: self,
                 }
             }
+            Found::Nothing(d) => {
+                steps::put_back(heap, &log, notes);
+                Out {
+                    answer: Answer::NoFit(c + d as u32),
+                    rec: self,
+                }
+            }
+            Found::At(l, d) => rec.take_found(heap, l, c + d as u32, z),
+        }
+    }
+
+    // Takes the chunk that a search found, after c comparisons, for a rounded size; what is cleared is the chunk as finally cut.
+    fn take_found(self, heap: &mut [u32], l: Link, c: u32, z: u32) -> Out
+        requires { ⌜ Fitting (seen self (now heap)) z (l .0) ⌝ }
+        ensures { λ r. ⌜ outcome (r .answer) (seen (r .rec) (now (heap .exit))) ≡ took base (seen self (now (heap .entry))) z (l .0) c ⌝ }
+    {
+        let hdr = words::link_to_hdr(l);
+        let n = words::get_hdr_chunk_size(heap, hdr);
+        let m = steps::portion_of(n, z);
+        let a = self.take_chunk(heap, l, n, z);
+        steps::clear_payload(heap, hdr, m);
+        let end = words::hdr_to_offset(words::hdr_to_right_hdr(hdr, m));
+        let rec = a.count_in(m, end.0);
+        Out {
+            answer: Answer::Done(words::hdr_to_payload(hdr), c),
+            rec,
         }
     }
 }

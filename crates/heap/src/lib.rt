@@ -1,6 +1,6 @@
 // The heap: Hopter's heap.rs over a lent slice of words and a record by value.
 //
-// Files in document 01's port order; the functions bear heap.rs's names.
+// The files follow document 01's port order; the functions have heap.rs's names.
 //
 //     kind      how many cache places a heap has
 //     record    what the heap knows besides its words: sentinels, counters, the cached chunks
@@ -10,7 +10,7 @@
 //     undo      releasing so that it can be undone
 //     calls     mcu_heap_init, mcu_malloc and mcu_free: make, hand_out, take_back
 //
-// What knows no record (the search, the tags of a free chunk, emptying, the walk of the tiling) is crate `steps`.
+// What needs no record (the search, the tags of a free chunk, emptying, the walk of the tiling) is in crate `steps`.
 //
 // Any record, any memory and any number may be passed to a public function. Its contract is one equation with a rule of crate `rules`, on
 // the record and words as `seen` (specs/Seen.antt) reads them.

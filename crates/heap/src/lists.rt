@@ -1,6 +1,6 @@
 // The six free lists: rings through the record's sentinels and the link words of free chunks.
 //
-// heap.rs reaches a sentinel by a pointer like any chunk; here a store comes in two halves, of which one does nothing.
+// heap.rs reaches a sentinel through a pointer, like any chunk; here a store has two halves, one of which does nothing.
 ghost use mathlib.Core.Path.{_≡_};
 ghost use Prim.Native.Nat.{_≤_, _<_};
 ghost use Rattle.rules.specs.Steps.{unlink, link};

@@ -1,7 +1,7 @@
 // The record: what heap.rs keeps in statics (SENTINELS, CACHED, CUR_ALLOC_SIZE, MAX_ALLOC_SIZE, HIGH_WATER_MARK and its flag).
-// CUR_ALLOC_SIZE is `committed` here, and `in_use` what tasks hold of it.
+// `committed` is CUR_ALLOC_SIZE, and `in_use` is the part of it that tasks hold.
 //
-// It is plain data, passed and handed back by value; all bytes zero is the empty record, as a kernel's static memory is at reset.
+// It is plain data, passed and returned by value. All bytes zero is the empty record: a kernel's static memory at reset.
 ghost use mathlib.Core.Path.{_≡_};
 ghost use Prim.Native.Nat.{_+_, _-_, _<_, _^_, max};
 ghost use lib.Dec.{ltb};
@@ -24,11 +24,11 @@ pub struct Record {
     pub in_use: u32,
     // bytes committed: the sum of used lengths, those of the cached chunks included
     pub committed: u32,
-    // the largest that committed has been
+    // the largest value that `committed` has had
     pub peak: u32,
     // the largest end, in bytes, of a chunk that was handed out
     pub high: u32,
-    // whether high water has risen since the mark was last read: 1 if it has, else 0; any other value is damaged
+    // whether high water has risen since the mark was last read: 1 if it has, else 0; any other value counts as damage
     pub fresh: u32,
 }
 
@@ -76,7 +76,7 @@ impl Record {
         }
     }
 
-    // The record of a heap of so many words, with empty lists.
+    // The record of a heap of this many words, with empty lists.
     pub(crate) fn of_words(words: u32) -> Record
         ensures { λ r. ⌜ r ≡ freshRecord words ⌝ }
     {
@@ -93,7 +93,7 @@ impl Record {
         }
     }
 
-    // Bytes in use, as tasks hold them: a chunk that is cached is not among them.
+    // Bytes in use, as tasks hold them: cached chunks do not count.
     pub fn in_use(self) -> u32
         ensures { λ r. ⌜ r ≡ self .«in_use» ⌝ }
     {
@@ -107,7 +107,7 @@ impl Record {
         self.committed
     }
 
-    // The most bytes that were committed.
+    // The most bytes that were ever committed.
     pub fn peak(self) -> u32
         ensures { λ r. ⌜ r ≡ self .peak ⌝ }
     {
@@ -121,8 +121,8 @@ impl Record {
         self.high
     }
 
-    // The mark of allocator/mod.rs: if high water has risen, high water less 108 bytes a stacklet, and the flag clears. It never refuses: a flag of
-    // any value but 0 is on.
+    // The mark of allocator/mod.rs: if high water has risen, high water less 108 bytes for each stacklet, and the flag is cleared. It never refuses:
+    // any flag but 0 counts as on.
     pub fn mark(self, stacklets: u32) -> Marked
         ensures { λ r. ⌜ r ≡ markOf self stacklets ⌝ }
     {
@@ -144,7 +144,7 @@ impl Record {
         }
     }
 
-    // The record's half of storing a node's prev link: nothing where the node is a chunk.
+    // The record's half of storing a node's prev link: nothing if the node is a chunk.
     pub(crate) fn set_sentinel_prev(mut self, l: Link, to: Link) -> Record
         ensures { λ r. ⌜ r ≡ withPrevs self (stored (self .prev) (l .0) to) ⌝ }
     {
@@ -166,7 +166,7 @@ impl Record {
         self
     }
 
-    // The record with `held` bytes in use and other cached chunks; committed stays.
+    // The record with `held` bytes in use and the cached chunks c; `committed` stays.
     pub(crate) fn with_cached(mut self, held: u32, c: [Link; 4]) -> Record
         ensures { λ r. ⌜ r ≡ withCached self held c ⌝ }
     {
@@ -175,7 +175,7 @@ impl Record {
         self
     }
 
-    // The counters after a chunk of m bytes that ends at byte `end` came from a list.
+    // The counters after a chunk of m bytes that ends at byte `end` was taken from a list.
     pub(crate) fn count_in(mut self, m: u32, end: u32) -> Record
         requires { ⌜ (self .«in_use» + m < 2 ^ 32) × (self .committed + m < 2 ^ 32) ⌝ }
         ensures { λ r. ⌜ r ≡ countedIn self m end ⌝ }
@@ -189,7 +189,7 @@ impl Record {
         self
     }
 
-    // The counters after a chunk of n bytes left the cache for a list, others are cached then, and `held` bytes are in use.
+    // The record after a chunk of n bytes has left the cache for a list: the newer ones are still cached, and `held` bytes are in use.
     pub(crate) fn count_out(mut self, held: u32, n: u32, newer: [Link; 4]) -> Record
         ensures { λ r. ⌜ r ≡ countedOut self held n newer ⌝ }
     {

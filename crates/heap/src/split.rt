@@ -1,4 +1,4 @@
-// Taking a listed chunk: it is unlinked and marked used, and what it has too much goes back to the lists.
+// Taking a listed chunk: it is unlinked and marked used, and the excess goes back to the lists.
 ghost use mathlib.Core.Path.{_≡_};
 ghost use Prim.Native.Nat.{_+_, _-_, _/_, _≤_, _<_, _^_};
 ghost use Rattle.rules.specs.Steps.{portion, returnExcess, takeChunk};
@@ -9,7 +9,7 @@ use words::WordIndex;
 
 impl Record {
     // Of the total bytes at a used header only `size` are kept, if at least FREE_CHUNK_MIN_SIZE would remain: the right part becomes a free
-    // chunk at the head of its list. Else the right neighbour learns that the whole chunk is used.
+    // chunk at the head of its list. Otherwise the right neighbour learns that the whole chunk is used.
     pub(crate) fn return_excess_to_free_list(
         self,
         heap: &mut [u32],
@@ -31,7 +31,7 @@ impl Record {
         self.link_chunk(heap, class, words::hdr_to_link(rest))
     }
 
-    // Takes the listed chunk of n bytes that l names for z bytes.
+    // Takes the listed chunk of n bytes that l names, to serve z bytes.
     pub(crate) fn take_chunk(self, heap: &mut [u32], l: Link, n: u32, z: u32) -> Record
         requires { ⌜ (6 ≤ l .0) × (l .0 + n / 4 < 65536) ⌝ }
         ensures { λ r. ⌜ seen r (now (heap .exit)) ≡ takeChunk base (seen self (now (heap .entry))) (l .0 - 6) n z ⌝ }

@@ -3,13 +3,19 @@
 // `steps::put_back` gives every word as it was. The record needs no notes: it is passed by value, so the caller still has it. That the notes suffice
 // is shown of any words, sound or not.
 ghost use mathlib.Core.Path.{_≡_};
+ghost use mathlib.Core.Bool.{true};
 ghost use Prim.Native.Nat.{_+_, _-_, _≤_, _<_};
+ghost use lib.ListN.{length};
+ghost use Rattle.words.specs.Numbers.{numbers};
+ghost use Rattle.cache.specs.Places.{usedPlaces};
 ghost use Rattle.rules.specs.Steps.{releaseChunk};
+ghost use Rattle.rules.specs.Rules.{withoutCache};
 ghost use Rattle.steps.specs.Chunk.{Releasable};
 ghost use Rattle.steps.specs.Undone.{Room};
 ghost use Rattle.heap.specs.Seen.{seen, base};
-ghost use Rattle.heap.specs.Released.{unlinkIf, freeListed};
+ghost use Rattle.heap.specs.Released.{unlinkIf, freeListed, oldestGone};
 ghost use Rattle.heap.specs.Undoable.{Undoable};
+ghost use Rattle.heap.specs.Answer.{soundAt};
 use super::record::Record;
 use words::Link;
 use words::WordIndex;
@@ -87,5 +93,44 @@ impl Record {
         let b = rec.unlink_noted(heap, log, a.k, g.right_free, g.right);
         let rec = b.rec;
         rec.free_noted(heap, log, b.k, g.hdr, g.size)
+    }
+
+    // Releases the oldest cached chunk of a sound heap, in at most nine notes; what tasks hold stays.
+    pub(crate) fn let_go(self, heap: &mut [u32], log: &mut [u32], k: usize) -> Noted
+        requires { ⌜ (soundAt 4 (seen self (now heap)) ≡ true) × (0 < usedPlaces (numbers (self .cached))) × Room (now heap) (now log) k 9 ⌝ }
+        ensures { λ r. ⌜ Undoable (oldestGone (seen self (now (heap .entry)))) 9
+            (now (heap .entry)) (now (log .entry)) k (now (heap .exit)) (now (log .exit)) r ⌝ }
+    {
+        let c = self.cached;
+        let held = self.in_use;
+        let old = c[0];
+        let n = words::get_hdr_chunk_size(heap, words::link_to_hdr(old));
+        let a = self.release_noted(heap, log, k, old, n);
+        let others = cache::left_out(c, 0);
+        let rec = a.rec;
+        Noted {
+            rec: rec.count_out(held, n, others),
+            k: a.k,
+        }
+    }
+
+    // Empties the cache of a sound heap, oldest chunk first, in at most nine notes each.
+    pub(crate) fn empty_cache(self, heap: &mut [u32], log: &mut [u32]) -> Noted
+        requires { ⌜ (soundAt 4 (seen self (now heap)) ≡ true) × (72 ≤ length (now log)) ⌝ }
+        ensures { λ r. ⌜ Undoable (withoutCache base (seen self (now (heap .entry)))) 36
+            (now (heap .entry)) (now (log .entry)) 0 (now (heap .exit)) (now (log .exit)) r ⌝ }
+    {
+        let c = self.cached;
+        let n = cache::used_places(c);
+        let mut rec = self;
+        let mut k: usize = 0;
+        let mut i: usize = 0;
+        while i < n {
+            let a = rec.let_go(heap, log, k);
+            rec = a.rec;
+            k = a.k;
+            i += 1;
+        }
+        Noted { rec, k }
     }
 }

@@ -53,12 +53,15 @@ module _ (places : ℕ) (s : State) (room : List ℕ) where
   unfolding written
   written-damaged e = rw e
 
-  -- answer 0: the state is sound, and its lines stand in the room
-  pub written-done : written places s room .number ≡ 0
-      → (soundAt places s ≡ true) × (written places s room ≡ says 0 (length (rowsOf s)) 0 (over (linesOf (rowsOf s)) room))
+  -- the state is sound, and its lines stand in the room
+  abbrev Done : Type 0
+  Done = (soundAt places s ≡ true) × (written places s room ≡ says 0 (length (rowsOf s)) 0 (over (linesOf (rowsOf s)) room))
+
+  -- answer 0
+  pub written-done : written places s room .number ≡ 0 → Done
   written-done z = go (soundAt places s) refl
     where
-      go : (t : Bool) → soundAt places s ≡ t → (soundAt places s ≡ true) × (written places s room ≡ says 0 (length (rowsOf s)) 0 (over (linesOf (rowsOf s)) room))
+      go : (t : Bool) → soundAt places s ≡ t → Done
       go true e =
           let w = written-sound e in
           let f = laid-zero (length (rowsOf s)) (linesOf (rowsOf s)) room (ap (λ (o : Outcome (List ℕ)). o .number) (sym w) ∙ z) in

@@ -71,7 +71,8 @@ module _ (most places : ℕ) where
     stopped (r ∷ rs) [] goes some stops = absurd (let n : suc (length rs) ≡ 0 = ap length (some refl) in omega arith)
     stopped good (b ∷ bs) goes some stops =
         let all : List ℕ = linesOf good ++ b ∷ bs in
-        let n : length all ≡ 19 * length good + suc (length bs) = length-append (linesOf good) (b ∷ bs) ∙ ap (λ (x : ℕ). x + suc (length bs)) (length-lines good) in
+        let n : length all ≡ 19 * length good + suc (length bs) =
+        length-append (linesOf good) (b ∷ bs) ∙ ap (λ (x : ℕ). x + suc (length bs)) (length-lines good) in
         let any : 0 < length all = omega arith in
         let left : ℕ = 18 * length good + length bs in
         let fuel : length all ≡ length good + suc left = omega arith in

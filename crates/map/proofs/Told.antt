@@ -20,7 +20,7 @@ use Rattle.map.specs.Answer.{number, value, told}
 use Rattle.map.specs.Reading.{Read, rows, bad, readAll}
 use Rattle.map.specs.Calls.{over, laid, rowsOf, written, readInto}
 
--- the contract of `write_map` (src/write.rt), with so many cache places: the record r, the words ws and the room give the answer a and leave the room b
+-- the contract of `write_map` (src/write.rt), with this many cache places: the record r, the words ws and the room give the answer a and leave the room b
 abbrev pub WritesMap : ℕ → Record → List ℕ → List ℕ → Answer → List ℕ → Type 0
 WritesMap places r ws room a b = told a b ≡ written places (seen r ws) room
 

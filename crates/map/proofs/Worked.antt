@@ -15,7 +15,7 @@ use Rattle.rules.specs.Search.{find, inTurn}
 use Rattle.rules.specs.Place.{usedAt, tile}
 use Rattle.rules.specs.Lists.{walk}
 use Rattle.rules.specs.Exact.{frees}
-use Rattle.rules.specs.Rules.{says, choose, listed, firstFit, fromList, fromCache, serve, handOut, live, settled, takeBack}
+use Rattle.rules.specs.Rules.{says, choose, listed, emptyCache, firstFit, fromMerged, fromList, fromCache, serve, handOut, live, settled, takeBack}
 use Rattle.rules.specs.Making.{State, make}
 use Rattle.rules.specs.Machine.{ask, give}
 use Rattle.rules.specs.Test.{legalᵇ, calmᵇ, tagsᵇ, segᵇ, belowᵇ, everyᵇ, slotᵇ, exactᵇ, distinctᵇ, underᵇ, cacheᵇ, figuresᵇ, showsᵇ, candidate, soundᵇ}
@@ -48,10 +48,10 @@ wornMap = "110000000000000018\n100000001800000010\n120000002800000038\n100000006
 pub worn-written :
     written (one .places) worn (replicate 80 255) ∷ written (one .places) worn (replicate 75 255) ∷ []
     ≡ says 0 4 0 (bytes wornMap ++ replicate 4 255) ∷ says 6 0 0 (replicate 75 255) ∷ []
-unfolding written laid over rowsOf mapOf linesOf answerBytes digitsOf byteOf
-    call handOut takeBack live choose listed make serve fromCache fromList firstFit settled link unlink setLeft clearLeft markFree markUsed oneChunk
-    returnExcess takeChunk emptied cleared leftFree rightFree merge merged releaseChunk setLinkAt classOf find inTurn usedAt soundᵇ showsᵇ candidate
-    legalᵇ calmᵇ tagsᵇ segᵇ belowᵇ everyᵇ slotᵇ exactᵇ distinctᵇ underᵇ cacheᵇ figuresᵇ tile walk frees
+unfolding written laid over rowsOf mapOf linesOf answerBytes digitsOf byteOf call handOut takeBack live choose listed make serve fromCache fromList fromMerged
+    emptyCache firstFit settled link unlink setLeft clearLeft markFree markUsed oneChunk returnExcess takeChunk emptied cleared leftFree rightFree merge
+    merged releaseChunk setLinkAt classOf find inTurn usedAt soundᵇ showsᵇ candidate legalᵇ calmᵇ tagsᵇ segᵇ belowᵇ everyᵇ slotᵇ exactᵇ distinctᵇ underᵇ
+    cacheᵇ figuresᵇ tile walk frees
 worn-written = refl
 
 -- it is read, into words

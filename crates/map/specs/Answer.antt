@@ -18,6 +18,6 @@ value Damaged = 0
 value NoRoom = 0
 value (BadLine k) = k
 
--- an answer beside the room after the call, as the rules write outcomes
+-- an answer and the room after the call, as the rules write outcomes
 abbrev pub told : Answer → List ℕ → Outcome (List ℕ)
 told a room = says (number a) (value a) 0 room

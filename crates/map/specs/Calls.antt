@@ -26,7 +26,7 @@ laid n xs room = pick (leb (length xs) (length room)) (says 0 n 0 (over xs room)
 unfoldable pub rowsOf : State → List Row
 rowsOf s = mapOf (s .rest .cached) 0 (tile (base .word s) (base .count s) 0)
 
--- WRITING the map of a state with so many cache places into lent bytes
+-- WRITING the map of a state with this many cache places into lent bytes
 unfoldable pub written : ℕ → State → List ℕ → Outcome (List ℕ)
 written places s room = pick (soundAt places s) (laid (length (rowsOf s)) (linesOf (rowsOf s)) room) (says 5 0 0 room)
 

@@ -1,4 +1,4 @@
--- WHICH LINE IS THE FIRST BAD ONE (W-201), said by legal maps. proofs/Maps.antt proves the claims.
+-- WHICH LINE IS THE FIRST BAD ONE (W-201), in terms of legal maps. proofs/Maps.antt proves the claims.
 use mathlib.Core.Path.{_≡_}
 use mathlib.Core.Logic.{_⊎_}
 use mathlib.Core.List.{List, [], _∷_, _++_}
@@ -8,7 +8,8 @@ use Rattle.map.specs.declared.rows.Row.{Row}
 use Rattle.map.specs.Rows.{lineOf, linesOf}
 use Rattle.map.specs.Layout.{LegalMap}
 
--- LINE k OF THE BYTES IS THE FIRST BAD ONE: the lines before it, if any, are a legal map, and with no row's line do the bytes after them go on as one.
+-- LINE k OF THE BYTES IS THE FIRST BAD ONE: the lines before it, if any, are a legal map, and the bytes after them do not begin with
+-- the line of a row that goes on with that map.
 -- No line after it could mend it: the first rows of a legal map are a legal map themselves (`beginning-of-a-map`).
 pub record FirstBad (most places : ℕ) (bs : List ℕ) (k : ℕ) : Type 0 where
   pub good : List Row

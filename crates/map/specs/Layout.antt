@@ -35,7 +35,7 @@ abbrev pub InLine : ℕ → List Row → Type 0
 InLine b [] = Unit {0}
 InLine b (r ∷ rs) = (freeKind ≤ r .kind) × (r .kind ≤ cachedKind) × (r .at ≡ b) × InLine (b + r .len) rs
 
--- WHICH ROWS ARE A MAP: they tile an accepted length with legal chunks, no two free ones touch, and at most so many are cached
+-- WHICH ROWS ARE A MAP: they tile an accepted length with legal chunks, no two free ones touch, and no more are cached than there are places
 pub record LegalMap (most places : ℕ) (rs : List Row) : Type 0 where
   pub words : ℕ
   pub accepted : Accepted most words

@@ -13,7 +13,7 @@ use Rattle.map.specs.declared.rows.Line.{Line}
 use Rattle.map.specs.declared.rows.Line.the-variants.{Good, Bad}
 use Rattle.map.specs.Rows.{row, freeKind, cachedKind}
 
--- a line with its line feed: eighteen digits, two of kind, eight of offset, eight of length
+-- a line with its line feed: eighteen digits, two for the kind, eight for the offset, eight for the length
 unfoldable pub rowIn : List ℕ → Line
 rowIn l =
     let r = row (valueOf (take 2 l)) (valueOf (take 8 (drop 2 l))) (valueOf (take 8 (drop 10 l))) in
@@ -55,13 +55,13 @@ module _ (most places : ℕ) where
   lineRead p k more Bad = bad k
   lineRead p k more (Good r) = let q = before r (more (past p r)) in pick (followsᵇ most places p r) q (bad k)
 
-  -- the bytes bs from line k on, in at most so many lines
+  -- the bytes bs from line k on, as at most this many lines
   unfoldable pub readFrom : ℕ → Place → ℕ → List ℕ → Read
   readFrom zero p k bs = rows []
   readFrom (suc fuel) p k bs =
       let q = lineRead p k (λ p'. readFrom fuel p' (suc k) (drop 19 bs)) (rowIn (take 19 bs)) in
       pick (eqb (length bs) 0) (rows []) q
 
-  -- all bytes; no line at all is bad as line 1
+  -- all bytes; where there is no line at all, line 1 is bad
   unfoldable pub readAll : List ℕ → Read
   readAll bs = pick (eqb (length bs) 0) (bad 1) (readFrom (length bs) start 1 bs)

@@ -18,7 +18,7 @@ liveKind = 17
 abbrev pub cachedKind : ℕ
 cachedKind = 18
 
--- a row's line: two digits of kind, eight of header offset, eight of length, and a line feed, as in an answer's line
+-- a row's line: two digits for the kind, eight for the header's offset, eight for the length, and a line feed, as in an answer's line
 abbrev pub lineOf : Row → List ℕ
 lineOf r = answerBytes (r .kind) (r .at) (r .len)
 

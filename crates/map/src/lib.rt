@@ -1,6 +1,6 @@
 // The heap map (W-201): a heap on paper, one line for each chunk, and back.
 //
-// A line has two digits of kind (10 free, 11 live, 12 cached), eight of header offset and eight of length, upper case, and a line feed:
+// A line has two digits for the kind (10 free, 11 live, 12 cached), eight for the header's offset, eight for the length, and a line feed:
 // nineteen bytes. The guard has no line. Any record, words and bytes may be passed.
 //
 //     rows    a row, its line, and what may follow it

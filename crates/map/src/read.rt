@@ -1,4 +1,4 @@
-// A map, read: its lines are tried one after the other, and then, if all are good and the room suffices, their rows are laid into the room.
+// A map, read: its lines are tried one after the other, and then, if all are good and there is room, their rows are laid into it.
 // Contracts cite specs/Reading.antt, specs/Steps.antt and specs/Calls.antt.
 ghost use mathlib.Core.Path.{_≡_};
 ghost use Prim.Native.Nat.{_+_, _*_, _^_, _≤_, _<_};
@@ -22,7 +22,7 @@ enum Checked {
     Wrong(usize),
 }
 
-// The line that begins at byte i; a rest without a line feed is none.
+// The line that begins at byte i; what is left without a line feed is none.
 fn line_at(lines: &[u8], i: usize) -> Line
     ensures { λ r. ⌜ r ≡ rowIn (take 19 (drop i (now (lines .entry)))) ⌝ }
 {
@@ -104,7 +104,7 @@ pub fn read_map(lines: &[u8], room: &mut [u32], kind: Kind) -> Answer
     read_lines(lines, room, places)
 }
 
-// The same, for a heap with so many cache places.
+// The same, for a heap with this many cache places.
 fn read_lines(lines: &[u8], room: &mut [u32], places: usize) -> Answer
     requires { ⌜ places ≤ 4 ⌝ }
     ensures { λ r. ⌜ told r (now (room .exit)) ≡ readInto (readAll 65529 places (now (lines .entry))) (now (room .entry)) ⌝ }

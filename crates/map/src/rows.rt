@@ -86,7 +86,7 @@ fn stands(at: u32, r: Row) -> bool
     true
 }
 
-// Whether a row can follow at this place, with so many cache places.
+// Whether a row can follow at this place, on a heap with this many cache places.
 pub(crate) fn follows(p: Place, r: Row, places: usize) -> bool
     ensures { λ q. ⌜ q ≡ followsᵇ 65529 places p r ⌝ }
 {

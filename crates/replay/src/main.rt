@@ -1,11 +1,12 @@
 // The replay: answers frames as the trace program does, and after each answer prints the whole state of the heap in use, and its map.
 //
-// A state is a line of numbers, each eight digits after a space: the words of the heap, bytes in use, bytes committed, peak, high water, the
-// cached chunks' links, oldest first (0 for an unused place, and only one is used), the flag; the six prev and the six next links of the sentinels; then every word of the heap. The lines of
-// the map (W-201) come after it: one for each chunk, none before a heap is made. The file `stdin` holds requests, and `stdout` the original's
-// states and their maps after each, in the same form (tests/trace/README.md): the check of this crate compares them byte by byte.
+// A state is one line of numbers, each a space and eight digits: the words of the heap, bytes in use, bytes committed, peak, high water, the links
+// of the cached chunks, oldest first (0 for an unused place; only one is ever used), the flag, the six prev and the six next links of the sentinels,
+// and every word of the heap. The lines of the map (W-201) come after it: one for each chunk, none before a heap is made. The file `stdin` holds
+// requests, and `stdout` the original's states and maps after each of them, in the same form (tests/trace/README.md): the check of this crate
+// compares them byte by byte.
 //
-// Reading is in crate `stream`. One byte is lent to a read, so that no more than one line is answered before its state is written.
+// Crate `stream` does the reading. A read is lent one byte, so that at most one line is answered before its state is written.
 use heap::Kind;
 use heap::Record;
 use map::Answer;
@@ -43,7 +44,7 @@ fn write(room: &[u8], n: usize) -> bool {
     io::write_all(1, &room[0..n])
 }
 
-// Puts the whole state on a line, and the map behind it. Where the room ends now, as after each put.
+// Puts the whole state on a line, and the map after it. Returns where the next byte goes, as every put does.
 fn show(room: &mut [u8], at: usize, rec: Record, memory: &[u32]) -> usize {
     let flag = rec.fresh;
     let cached = rec.cached;

@@ -16,8 +16,9 @@ use Rattle.rules.specs.Chunks.{Chunk, free, busy, total, Legal}
 use Rattle.rules.specs.Exact.{slot}
 use Rattle.rules.specs.Search.{Found, at, nowhere, lost}
 use Rattle.rules.specs.Place.{UsedAt, lenAt, usedAt}
-use Rattle.rules.specs.Rules.{Figures, Outcome, says, byteOf, nameOf, Chosen, none, one, choose, counted, fromList, fromCache, serve, handOut}
-use Rattle.rules.specs.Machine.{Model, sizeM, tookM, searched, searchM, fromListM, fromCacheM, handOutM}
+use Rattle.rules.specs.Rules.{Figures, Outcome, says, byteOf, nameOf, Chosen, none, one, choose, counted, withoutCache, fromMerged, fromList, fromCache}
+use Rattle.rules.specs.Rules.{serve, handOut}
+use Rattle.rules.specs.Machine.{Model, sizeM, tookM, searched, searchM, withoutCacheM, fromMergedM, fromListM, fromCacheM, handOutM}
 use Rattle.rules.specs.Sound.{Shows}
 use Rattle.rules.specs.Test.{soundᵇ}
 use Rattle.rules.specs.Demands.{LiveAt, Holds, hand}
@@ -29,7 +30,8 @@ use Rattle.rules.proofs.LayoutFacts.{free-there}
 use Rattle.rules.proofs.Place.{free-at, used-at}
 use Rattle.rules.proofs.Search.{find-fits, Fits}
 use Rattle.rules.proofs.Named.{size-at, byte-at}
-use Rattle.rules.proofs.Follow.{L, whole, bytes, uncached, took, took-used, used-size, met-free, search-same, choose-cached, choose-picked, Picked, portion-least, r16, r8}
+use Rattle.rules.proofs.Follow.{L, whole, bytes, uncached, took, took-used, without-cache-shows, used-size, met-free, search-same, choose-cached}
+use Rattle.rules.proofs.Follow.{choose-picked, Picked, portion-least, r16, r8}
 use Rattle.rules.proofs.Decide.{sound-true, true-sound, layout-unique, figures-unique}
 use Rattle.rules.proofs.Cases.{hand-cases}
 use Rattle.rules.proofs.Demands.{hand-follows, used-there}
@@ -66,10 +68,12 @@ module _ {S : Type 0} {op : Ops S Figures} {most places : ℕ} (E : Edition op m
           let hi = p .1 in
           emptied-in (L E t m h) t (x - 6) k i (whole E t m h .rings .good) (L E t m h .inw i (omega arith)) (omega arith) (omega arith)
 
-  took-arrives : (s : S) (pre : List Chunk) (n : ℕ) (post : List Chunk) (O : ℕ → List ℕ) (f : Figures) (x z : ℕ) → 16 ≤ z → z % 8 ≡ 0 → x ≡ (0 + total pre) / 4 + 6
+  took-arrives : (s : S) (pre : List Chunk) (n : ℕ) (post : List Chunk) (O : ℕ → List ℕ) (f : Figures) (x z : ℕ) → 16 ≤ z → z % 8 ≡ 0
+      → x ≡ (0 + total pre) / 4 + 6
       → Sh s (record { cs = pre ++ free n ∷ post; orders = O; figs = f })
       → Arrived
-      (emptied op (op .setRest (takeChunk op s (x - 6) (lengthAt op s x) z) (counted (op .rest s) (portion (lengthAt op s x) z) (byteOf x + portion (lengthAt op s x) z)))
+      (emptied op (op .setRest (takeChunk op s (x - 6) (lengthAt op s x) z)
+      (counted (op .rest s) (portion (lengthAt op s x) z) (byteOf x + portion (lengthAt op s x) z)))
       (x - 6) (portion (lengthAt op s x) z))
       (tookM (record { cs = pre ++ free n ∷ post; orders = O; figs = f }) x (lenAt (pre ++ free n ∷ post) (byteOf x)) z) (byteOf x + 4)
   unfolding tookM
@@ -83,24 +87,39 @@ module _ {S : Type 0} {op : Ops S Figures} {most places : ℕ} (E : Edition op m
       (portion-least 1 (lengthAt op s x) z (omega arith) (omega arith))
       (λ q. let u = h .cache .used x q .1 in let v = ap (usedAt (pre ++ free n ∷ post)) b ∙ free-there pre n post lp in omega arith)
 
-  module _ (s : S) (m : Model) (h : Sh s m) where
-    -- what is served, arrives
-    abbrev Served : Outcome S → Outcome Model → Type 0
-    Served o q = o .number ≡ 0 → Arrived (o .after) (q .after) (o .value)
+  -- what is served, arrives
+  abbrev Served : Outcome S → Outcome Model → Type 0
+  Served o q = o .number ≡ 0 → Arrived (o .after) (q .after) (o .value)
 
-    listed-arrives : (z : ℕ) → 16 ≤ z → z % 8 ≡ 0 → (r : Found) → Fits (sizeM m) z (searched m z) r → Served (fromList op s z r) (fromListM m z r)
+  module _ (s : S) (m : Model) (h : Sh s m) where
+    found-arrives : (z x c : ℕ) → 16 ≤ z → z % 8 ≡ 0 → Mem x (searched m z) → Served (fromList op s z (at x c)) (fromListM m z (at x c))
     unfolding fromList
-    listed-arrives z z16 z8 (nowhere c) f = λ q. absurd (let u : _≡_ {A = ℕ} 3 0 = q in omega arith)
-    listed-arrives z z16 z8 lost f = absurd f
-    listed-arrives z z16 z8 (at x c) f = λ q.
-        let r = met-free E s m h z x (f .0) in
+    found-arrives z x c z16 z8 i = λ q.
+        let r = met-free E s m h z x i in
         let g = free-at 0 (m .cs) (slot x (r .0)) (r .1) in
         subst (λ cs. Sh s (record { cs = cs; orders = m .orders; figs = m .figs })
         → Arrived
-        (emptied op (op .setRest (takeChunk op s (x - 6) (lengthAt op s x) z) (counted (op .rest s) (portion (lengthAt op s x) z) (byteOf x + portion (lengthAt op s x) z)))
+        (emptied op (op .setRest (takeChunk op s (x - 6) (lengthAt op s x) z)
+        (counted (op .rest s) (portion (lengthAt op s x) z) (byteOf x + portion (lengthAt op s x) z)))
         (x - 6) (portion (lengthAt op s x) z))
         (tookM (record { cs = cs; orders = m .orders; figs = m .figs }) x (lenAt cs (byteOf x)) z) (byteOf x + 4))
         (sym (g .is)) (λ w. took-arrives s (g .pre) (r .0) (g .post) (m .orders) (m .figs) x z z16 z8 (g .named) w) h
+
+  module _ (s : S) (m : Model) (h : Sh s m) where
+    merged-arrives : (z c : ℕ) → 16 ≤ z → z % 8 ≡ 0 → (r : Found) → Fits (sizeM (withoutCacheM m)) z (searched (withoutCacheM m) z) r
+        → Served (fromMerged op s z c r) (fromMergedM m z c r)
+    unfolding fromMerged fromList
+    merged-arrives z c z16 z8 (nowhere d) f = λ q. absurd (let u : _≡_ {A = ℕ} 3 0 = q in omega arith)
+    merged-arrives z c z16 z8 lost f = absurd f
+    merged-arrives z c z16 z8 (at x d) f = found-arrives (withoutCache op s) (withoutCacheM m) (without-cache-shows E s m h) z x (c + d) z16 z8 (f .0)
+
+    listed-arrives : (z : ℕ) → 16 ≤ z → z % 8 ≡ 0 → (r : Found) → Fits (sizeM m) z (searched m z) r → Served (fromList op s z r) (fromListM m z r)
+    unfolding fromList
+    listed-arrives z z16 z8 (nowhere c) f =
+        rw (search-same E (withoutCache op s) (withoutCacheM m) (without-cache-shows E s m h) z)
+        (merged-arrives z c z16 z8 (searchM (withoutCacheM m) z) (find-fits (sizeM (withoutCacheM m)) z (searched (withoutCacheM m) z) 0))
+    listed-arrives z z16 z8 lost f = absurd f
+    listed-arrives z z16 z8 (at x c) f = found-arrives s m h z x c z16 z8 (f .0)
 
     serve-arrives : (z : ℕ) → 16 ≤ z → z % 8 ≡ 0 → Served (serve op s z) (fromCacheM m z (choose (sizeM m) z (m .figs .cached)))
     unfolding serve fromCache

@@ -1,7 +1,7 @@
 -- BOUNDS for the code: what a sound state's readings keep to, so that no sum leaves its type and no index the heap. Conclusions speak of the state alone.
 --     found-fits      the chunk that a search finds: where it lies, its length, what in use becomes, how many were compared
 --     never-lost      a search on a sound state does not run out;  nowhere-short: nor does it compare more than a quarter of the words
---     cached-fits     a cached chunk;  cached-held: beside what tasks hold;  release-fits: the free bytes on its two sides
+--     cached-fits     a cached chunk;  cached-held: together with what tasks hold;  release-fits: the free bytes on its two sides
 --     live-fits       the offset of a live chunk's payload;  live-held: its length is in use
 --     figures-fit     the word count and the figures
 -- Each for a state that shows a model, and (name with ᵇ) for one that the test says yes to. Assumes nothing.

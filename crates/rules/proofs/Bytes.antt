@@ -94,7 +94,8 @@ module _ {S R : Type 0} (op : Ops S R) where
       let d : ((w - f / 4) * 4 + f + n) / 4 ≡ w + n / 4 = omega arith in
       rw (e, d, word-of (w - f / 4)) (there (merge op (ltb 0 f) (ltb 0 g) s (w - f / 4 + 6) (w + n / 4 + 6)))
     where
-      there : (t : S) → link op (clearLeft op (markFree op t (w - f / 4) (f + (n + g))) (rightOf (w - f / 4) (f + (n + g)))) (classOf (f + (n + g))) (w - f / 4 + 6)
+      there : (t : S)
+          → link op (clearLeft op (markFree op t (w - f / 4) (f + (n + g))) (rightOf (w - f / 4) (f + (n + g)))) (classOf (f + (n + g))) (w - f / 4 + 6)
           ≡ link op (oneFree t ((w - f / 4) * 4) (f + (n + g))) (classOf (f + (n + g))) (w - f / 4 + 6)
       there t = ap (λ (x : S). link op x (classOf (f + (n + g))) (w - f / 4 + 6)) (free-words t (w - f / 4) (f + (n + g)))
 

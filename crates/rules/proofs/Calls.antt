@@ -102,12 +102,13 @@ module _ {S R : Type 0} {op : Ops S R} (L : LinkStore op) (cls : ℕ → ℕ) (c
     unfolding push
     freed u s O mid m em m16 m8 p =
         let q = free-part L cls cls6 pre post O u s mid m em m16 m8 p in
+        let lp = legal-front pre (mid ++ post) (p .legal) in
+        let lq = legal-back mid post (legal-back pre (mid ++ post) (p .legal)) in
         rw (frees-free m)
         (part-link L cls cls6 (oneFree op s b m) O (pre ++ free m ∷ post) (frees 0 pre) (frees (b + m) post) (b / 4 + 6) m
-        (outside-alone L cls cls6 pre post O m (legal-front pre (mid ++ post) (p .legal)) (legal-back mid post (legal-back pre (mid ++ post) (p .legal))) (b / 4)
-        (omega arith) (omega arith))
+        (outside-alone L cls cls6 pre post O m lp lq (b / 4) (omega arith) (omega arith))
         (rw (frees-free m) (Memᴰ·append-right (frees 0 pre) (List·Memᴰ·head refl)))
-        (let h8 = total-8 pre (legal-front pre (mid ++ post) (p .legal)) in let r = q .size in
+        (let h8 = total-8 pre lp in let r = q .size in
         let y = total-append pre (free m ∷ post) in L .fit b (omega arith) (omega arith))
         (omega arith) q)
 
@@ -121,15 +122,17 @@ module _ {S R : Type 0} {op : Ops S R} (L : LinkStore op) (cls : ℕ → ℕ) (c
 
       -- the right neighbour, g bytes
       pub right-off : (g : ℕ) → Whole s O (pre ++ busy n ∷ free g ∷ post)
-          → Part L cls (unlink op s ((b + n) / 4 + 6)) (drop O (cls g) ((b + n) / 4 + 6)) (pre ++ busy n ∷ free g ∷ post) (outside L cls cls6 pre post O (n + g))
+          → Part L cls (unlink op s ((b + n) / 4 + 6)) (drop O (cls g) ((b + n) / 4 + 6)) (pre ++ busy n ∷ free g ∷ post)
+          (outside L cls cls6 pre post O (n + g))
       unfolding frees
       right-off g w =
           let l = legal-back pre (busy n ∷ free g ∷ post) (w .legal) in
           let n16 : 16 ≤ n = l .0 in
           let g16 : 16 ≤ g = l .2 .0 in
           let e : b + n + g ≡ b + (n + g) = omega arith in
+          let lp = legal-front pre (busy n ∷ free g ∷ post) (w .legal) in
           unlinked s O (pre ++ busy n ∷ free g ∷ post) (frees 0 pre) (frees (b + (n + g)) post) ((b + n) / 4 + 6) g
-          (outside-alone L cls cls6 pre post O (n + g) (legal-front pre (busy n ∷ free g ∷ post) (w .legal)) (l .2 .2) ((b + n) / 4) (omega arith) (omega arith))
+          (outside-alone L cls cls6 pre post O (n + g) lp (l .2 .2) ((b + n) / 4) (omega arith) (omega arith))
           (rw (frees-append 0 pre (busy n ∷ free g ∷ post), e) at w)
 
       pub release-right : lastUsed true pre ≡ true → (g : ℕ) → Whole s O (pre ++ busy n ∷ free g ∷ post)
@@ -157,7 +160,8 @@ module _ {S R : Type 0} {op : Ops S R} (L : LinkStore op) (cls : ℕ → ℕ) (c
           (rw (frees-append 0 pre (free f ∷ busy n ∷ post), e) at w)
 
       pub release-left : lastUsed true pre ≡ true → (f : ℕ) → Whole s O (pre ++ free f ∷ busy n ∷ post)
-          → Whole (link op (oneFree op (unlink op s (b / 4 + 6)) b (f + n)) (cls (f + n)) (b / 4 + 6)) (push (drop O (cls f) (b / 4 + 6)) (cls (f + n)) (b / 4 + 6))
+          → Whole (link op (oneFree op (unlink op s (b / 4 + 6)) b (f + n)) (cls (f + n)) (b / 4 + 6))
+          (push (drop O (cls f) (b / 4 + 6)) (cls (f + n)) (b / 4 + 6))
           (pre ++ free (f + n) ∷ post)
       release-left u f w =
           let l = legal-back pre (free f ∷ busy n ∷ post) (w .legal) in
@@ -193,10 +197,10 @@ module _ {S R : Type 0} {op : Ops S R} (L : LinkStore op) (cls : ℕ → ℕ) (c
       both-off f g w =
           let l = legal-back pre (free f ∷ busy n ∷ free g ∷ post) (w .legal) in
           let g16 : 16 ≤ g = l .2 .2 .0 in
-          unlinked (unlink op s (b / 4 + 6)) (drop O (cls f) (b / 4 + 6)) (pre ++ free f ∷ busy n ∷ free g ∷ post) (frees 0 pre) (frees (b + (f + (n + g))) post)
-          ((b + f + n) / 4 + 6) g
-          (outside-alone L cls cls6 pre post O (f + (n + g)) (legal-front pre (free f ∷ busy n ∷ free g ∷ post) (w .legal)) (l .2 .2 .2) ((b + f + n) / 4)
-          (omega arith) (omega arith))
+          let lp = legal-front pre (free f ∷ busy n ∷ free g ∷ post) (w .legal) in
+          unlinked (unlink op s (b / 4 + 6)) (drop O (cls f) (b / 4 + 6)) (pre ++ free f ∷ busy n ∷ free g ∷ post)
+          (frees 0 pre) (frees (b + (f + (n + g))) post) ((b + f + n) / 4 + 6) g
+          (outside-alone L cls cls6 pre post O (f + (n + g)) lp (l .2 .2 .2) ((b + f + n) / 4) (omega arith) (omega arith))
           (first-off f g w)
 
       pub release-both : lastUsed true pre ≡ true → (f g : ℕ) → Whole s O (pre ++ free f ∷ busy n ∷ free g ∷ post)

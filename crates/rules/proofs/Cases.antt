@@ -13,9 +13,10 @@ use Rattle.rules.specs.Ops.{Ops}
 use Rattle.rules.specs.Steps.{lengthAt}
 use Rattle.rules.specs.Search.{Found, at, nowhere, lost}
 use Rattle.rules.proofs.Search.{find-fits, Fits}
-use Rattle.rules.specs.Rules.{Figures, Outcome, says, byteOf, nameOf, Chosen, none, one, choose, withCached, firstFit, fromList, fromCache, serve}
-use Rattle.rules.specs.Rules.{handOut, live, settled, takeBack}
-use Rattle.rules.specs.Machine.{Model, sizeM, tookM, searched, searchM, fromListM, fromCacheM, handOutM, liveM, settledM, takeBackM}
+use Rattle.rules.specs.Rules.{Figures, Outcome, says, byteOf, nameOf, Chosen, none, one, choose, withCached, withoutCache, firstFit, fromMerged}
+use Rattle.rules.specs.Rules.{fromList, fromCache, serve, handOut, live, settled, takeBack}
+use Rattle.rules.specs.Machine.{Model, sizeM, tookM, searched, searchM, withoutCacheM, fromMergedM, fromListM, fromCacheM, handOutM, liveM, settledM}
+use Rattle.rules.specs.Machine.{takeBackM}
 use Rattle.rules.proofs.Follow.{choose-picked, Picked}
 
 module _ {S : Type 0} (op : Ops S Figures) (places : ℕ) (sound : S → Bool) (s : S) where
@@ -38,12 +39,17 @@ module _ {S : Type 0} (op : Ops S Figures) (places : ℕ) (sound : S → Bool) (
   pub serve-cases : (z : ℕ) (P : Outcome S → Type 0) → ((x : ℕ) (t : S) → P (says 0 (byteOf x + 4) 0 t)) → ((x c : ℕ) (t : S) → P (says 0 (byteOf x + 4) c t))
       → ((c : ℕ) → P (says 3 0 c s)) → P (says 5 0 0 s)
       → P (serve op s z)
-  unfolding serve fromCache fromList
+  unfolding serve fromCache fromList fromMerged
   serve-cases z P cache list short off = served (choose (lengthAt op s) z (op .rest s .cached))
     where
+      again : (c : ℕ) (r : Found) → P (fromMerged op s z c r)
+      again c (at x d) = list x (c + d) _
+      again c (nowhere d) = short (c + d)
+      again c lost = off
+
       listed : (r : Found) → P (fromList op s z r)
       listed (at x c) = list x c _
-      listed (nowhere c) = short c
+      listed (nowhere c) = again c (firstFit op (withoutCache op s) z)
       listed lost = off
 
       served : (c : Chosen) → P (fromCache op s z c)
@@ -82,13 +88,24 @@ module _ (m : Model) where
       → ((x : ℕ) (ks : List ℕ) → Picked (sizeM m) z (m .figs .cached) (one x ks) → P
       (says 0 (byteOf x + 4) 0 (record { cs = m .cs; orders = m .orders; figs = withCached (m .figs) (m .figs .inUse + sizeM m x) ks })))
       → (Picked (sizeM m) z (m .figs .cached) none → (x c : ℕ) → searchM m z ≡ at x c → P (says 0 (byteOf x + 4) c (tookM m x (sizeM m x) z)))
-      → (Picked (sizeM m) z (m .figs .cached) none → (c : ℕ) → searchM m z ≡ nowhere c → P (says 3 0 c m))
+      → (Picked (sizeM m) z (m .figs .cached) none → (c : ℕ) → searchM m z ≡ nowhere c → (x d : ℕ) → searchM (withoutCacheM m) z ≡ at x d
+      → P (says 0 (byteOf x + 4) (c + d) (tookM (withoutCacheM m) x (sizeM (withoutCacheM m) x) z)))
+      → (Picked (sizeM m) z (m .figs .cached) none → (c : ℕ) → searchM m z ≡ nowhere c → (d : ℕ) → searchM (withoutCacheM m) z ≡ nowhere d
+      → P (says 3 0 (c + d) m))
       → P (fromCacheM m z (choose (sizeM m) z (m .figs .cached)))
-  serveM-cases z P cache list short = served (choose (sizeM m) z (m .figs .cached)) (choose-picked (sizeM m) z (m .figs .cached))
+  serveM-cases z P cache list merged short = served (choose (sizeM m) z (m .figs .cached)) (choose-picked (sizeM m) z (m .figs .cached))
     where
+      again : Picked (sizeM m) z (m .figs .cached) none → (c : ℕ) → searchM m z ≡ nowhere c → (r : Found) → searchM (withoutCacheM m) z ≡ r
+          → P (fromMergedM m z c r)
+      again p c e (at x d) g = merged p c e x d g
+      again p c e (nowhere d) g = short p c e d g
+      again p c e lost g =
+          let n = withoutCacheM m in
+          absurd (subst (Fits (sizeM n) z (searched n z)) g (find-fits (sizeM n) z (searched n z) 0))
+
       listed : Picked (sizeM m) z (m .figs .cached) none → (r : Found) → searchM m z ≡ r → P (fromListM m z r)
       listed p (at x c) e = list p x c e
-      listed p (nowhere c) e = short p c e
+      listed p (nowhere c) e = again p c e (searchM (withoutCacheM m) z) refl
       listed p lost e = absurd (subst (Fits (sizeM m) z (searched m z)) e (find-fits (sizeM m) z (searched m z) 0))
 
       served : (c : Chosen) → Picked (sizeM m) z (m .figs .cached) c → P (fromCacheM m z c)

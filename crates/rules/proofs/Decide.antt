@@ -65,7 +65,8 @@ tells-legal : (cs : List Chunk) → Tells (legalᵇ cs) (Legal cs)
 unfolding legalᵇ
 tells-legal [] = tells-unit
 tells-legal (c ∷ cs) =
-    tells-map (λ p. (p .0, p .1 .0, p .1 .1)) (λ p. (p .0, (p .1, p .2))) (tells-and (tells-le 16 (c .len)) (tells-and (tells-eq (c .len % 8) 0) (tells-legal cs)))
+    tells-map (λ p. (p .0, p .1 .0, p .1 .1)) (λ p. (p .0, (p .1, p .2)))
+    (tells-and (tells-le 16 (c .len)) (tells-and (tells-eq (c .len % 8) 0) (tells-legal cs)))
 
 tells-calm : (cs : List Chunk) → Tells (calmᵇ cs) (Calm cs)
 unfolding calmᵇ
@@ -90,18 +91,21 @@ tells-seg : (nx pv : ℕ → ℕ) (a : ℕ) (xs : List ℕ) (b : ℕ) → Tells 
 unfolding segᵇ
 tells-seg nx pv a [] b = tells-and (tells-eq (nx a) b) (tells-eq (pv b) a)
 tells-seg nx pv a (x ∷ xs) b =
-    tells-map (λ p. (p .0, p .1 .0, p .1 .1)) (λ p. (p .0, (p .1, p .2))) (tells-and (tells-eq (nx a) x) (tells-and (tells-eq (pv x) a) (tells-seg nx pv x xs b)))
+    tells-map (λ p. (p .0, p .1 .0, p .1 .1)) (λ p. (p .0, (p .1, p .2)))
+    (tells-and (tells-eq (nx a) x) (tells-and (tells-eq (pv x) a) (tells-seg nx pv x xs b)))
 
 tells-below : (f : ℕ → Bool) (P : ℕ → Type 0) → ((k : ℕ) → Tells (f k) (P k)) → (n : ℕ) → Tells (belowᵇ f n) ((k : ℕ) → k < n → P k)
 unfolding belowᵇ
 tells-below f P t zero = record { to = λ e k h. absurd (omega arith); from = λ g. refl }
-tells-below f P t (suc n) = tells-map (λ p k h. one p k h (ℕ-discrete k n)) (λ g. (g n (omega arith), λ k h. g k (omega arith))) (tells-and (t n) (tells-below f P t n))
+tells-below f P t (suc n) =
+    tells-map (λ p k h. one p k h (ℕ-discrete k n)) (λ g. (g n (omega arith), λ k h. g k (omega arith))) (tells-and (t n) (tells-below f P t n))
   where
     one : P n × ((k : ℕ) → k < n → P k) → (k : ℕ) → k < suc n → Dec (k ≡ n) → P k
     one p k h (yes e) = subst P (sym e) (p .0)
     one p k h (no q) = p .1 k (omega arith)
 
-tells-every : {A : Type 0} (f : A → Bool) (P : A → Type 0) → ((x : A) → Tells (f x) (P x)) → (xs : List A) → Tells (everyᵇ f xs) ((x : A) → List·Memᴰ x xs → P x)
+tells-every : {A : Type 0} (f : A → Bool) (P : A → Type 0) → ((x : A) → Tells (f x) (P x)) → (xs : List A)
+    → Tells (everyᵇ f xs) ((x : A) → List·Memᴰ x xs → P x)
 unfolding everyᵇ
 tells-every f P t [] = record { to = λ e x m. absurd (List·Memᴰ·not-nil m); from = λ g. refl }
 tells-every {A = A} f P t (x ∷ xs) =
@@ -121,11 +125,13 @@ tells-listed x ks = record { to = listed-true x ks; from = λ m. go (listed x ks
 tells-slot : (x k : ℕ) (F : List Slot) → Tells (slotᵇ x k F) ((n : ℕ) × In (slot x n) F × (classOf n ≡ k))
 unfolding slotᵇ
 tells-slot x k [] = record { to = λ e. absurd (let z : _≡_ {A = ℕ} 0 1 = cc in omega arith); from = λ p. absurd (List·Memᴰ·not-nil (p .1)) }
-tells-slot x k (t ∷ F) = go (both (eqb x (t .name)) (eqb (classOf (t .len)) k)) (tells-and (tells-eq x (t .name)) (tells-eq (classOf (t .len)) k)) (tells-slot x k F)
+tells-slot x k (t ∷ F) =
+    go (both (eqb x (t .name)) (eqb (classOf (t .len)) k)) (tells-and (tells-eq x (t .name)) (tells-eq (classOf (t .len)) k)) (tells-slot x k F)
   where
     not-here : (b : Bool) → Tells b ((x ≡ t .name) × (classOf (t .len) ≡ k)) → b ≡ false → (n : ℕ) → In (slot x n) (t ∷ F) → classOf n ≡ k → In (slot x n) F
     not-here b s e n (List·Memᴰ·head q) c =
-        absurd (let u : b ≡ true = s .from (ap (λ (s : Slot). s .name) q, ap (λ (s : Slot). classOf (s .len)) (sym q) ∙ c) in let z : _≡_ {A = ℕ} 0 1 = cc in omega arith)
+        let u : b ≡ true = s .from (ap (λ (s : Slot). s .name) q, ap (λ (s : Slot). classOf (s .len)) (sym q) ∙ c) in
+        absurd (let z : _≡_ {A = ℕ} 0 1 = cc in omega arith)
     not-here b s e n (List·Memᴰ·tail m) c = m
 
     go : (b : Bool) → Tells b ((x ≡ t .name) × (classOf (t .len) ≡ k)) → Tells (slotᵇ x k F) ((n : ℕ) × In (slot x n) F × (classOf n ≡ k))
@@ -246,7 +252,8 @@ module _ {S : Type 0} {op : Ops S Figures} {most places : ℕ} (E : Edition op m
         let o = order-few (L E s m h) classOf class-below s (m .orders) (m .cs) (whole E s m h) k q in
         let c = few E s m h in
         let n = h .accepted .0 in
-        walk-ring (op .next s) (op .prev s) k (m .orders k) (op .count s) (ring-once (L E s m h) s (m .orders) (whole E s m h .rings) k q) (omega arith) (h .lists k q)
+        let once = ring-once (L E s m h) s (m .orders) (whole E s m h .rings) k q in
+        walk-ring (op .next s) (op .prev s) k (m .orders k) (op .count s) once (omega arith) (h .lists k q)
 
     exact-is : Exact classOf (candidate op most places s .orders) (frees 0 (m .cs))
     exact-is = record {

@@ -57,9 +57,11 @@ module _ {S R : Type 0} {op : Ops S R} (L : LinkStore op) where
         → Whole L cls cls6 (cleared op s i k) O (pre ++ busy n ∷ post)
     unfolding cleared
     clear-whole s i zero lo hi w = w
-    clear-whole s i (suc k) lo hi w = clear-whole (op .setWord s i 0) (suc i) k (omega arith) (omega arith) (write-at L cls cls6 s O pre n post i 0 lo (omega arith) w)
+    clear-whole s i (suc k) lo hi w =
+        clear-whole (op .setWord s i 0) (suc i) k (omega arith) (omega arith) (write-at L cls cls6 s O pre n post i 0 lo (omega arith) w)
 
-    pub empty-whole : (s : S) (w : ℕ) → w ≡ (0 + total pre) / 4 → Whole L cls cls6 s O (pre ++ busy n ∷ post) → Whole L cls cls6 (emptied op s w n) O (pre ++ busy n ∷ post)
+    pub empty-whole : (s : S) (w : ℕ) → w ≡ (0 + total pre) / 4 → Whole L cls cls6 s O (pre ++ busy n ∷ post)
+        → Whole L cls cls6 (emptied op s w n) O (pre ++ busy n ∷ post)
     unfolding emptied
     empty-whole s w e h =
         let l = legal-back pre (busy n ∷ post) (h .legal) in

@@ -37,7 +37,8 @@ seg-distinct nx pv k (x ∷ xs) a h g = (twice, seg-distinct nx pv k xs x (λ m.
         let r = around x xs m in
         let s : Seg nx pv x (r .front ++ x ∷ r .back) k = rw (r .is) at (g .2) in
         let off : Mem k (r .front ++ x ∷ r .back) → ⊥ = λ i. h (List·Memᴰ·tail (subst (λ t. Mem k t) (sym (r .is)) i)) in
-        let e = ring-unique nx pv k (r .front ++ x ∷ r .back) (r .back) off (λ i. off (mem-after′ (r .front) x i)) x s (seg-snd nx pv x (r .front) x (r .back) k s) in
+        let e = ring-unique nx pv k (r .front ++ x ∷ r .back) (r .back) off (λ i. off (mem-after′ (r .front) x i)) x s
+        (seg-snd nx pv x (r .front) x (r .back) k s) in
         let l : length (r .front ++ x ∷ r .back) ≡ length (r .back) = ap length e in
         let y = length-append (r .front) (x ∷ r .back) in
         omega arith

@@ -84,7 +84,8 @@ module _ (cls : ℕ → ℕ) (O : ℕ → List ℕ) (F G : List Slot) (x n : ℕ
       keep y m i (inl q) = absurd (alone (slot y m) i q)
       keep y m i (inr a) = a
 
-      own : (y : ℕ) → Mem y (ys ++ zs) → (m : ℕ) → cls m ≡ cls n → (slot y m ≡ slot x n) ⊎ In (slot y m) (F ++ G) → (m : ℕ) × In (slot y m) (F ++ G) × (cls m ≡ cls n)
+      own : (y : ℕ) → Mem y (ys ++ zs) → (m : ℕ) → cls m ≡ cls n → (slot y m ≡ slot x n) ⊎ In (slot y m) (F ++ G)
+          → (m : ℕ) × In (slot y m) (F ++ G) × (cls m ≡ cls n)
       own y a m q (inl s) = absurd (gone ys x zs d (subst (λ (z : ℕ). Mem z (ys ++ zs)) (ap (λ (t : Slot). t .name) s) a))
       own y a m q (inr i) = (m, i, q)
 
@@ -109,5 +110,6 @@ module _ (cls : ℕ → ℕ) (O : ℕ → List ℕ) (F G : List Slot) (x n : ℕ
 
       new : (y m : ℕ) → (slot y m ≡ slot x n) ⊎ In (slot y m) (F ++ G) → Mem y (put O (cls n) (x ∷ O (cls n)) (cls m))
       new y m (inl s) =
-          subst (λ (t : Slot). Mem (t .name) (put O (cls n) (x ∷ O (cls n)) (cls (t .len)))) (sym s) (rw (put-same O (cls n) (x ∷ O (cls n))) (List·Memᴰ·head refl))
+          subst (λ (t : Slot). Mem (t .name) (put O (cls n) (x ∷ O (cls n)) (cls (t .len)))) (sym s)
+          (rw (put-same O (cls n) (x ∷ O (cls n))) (List·Memᴰ·head refl))
       new y m (inr i) = put-cases O (cls n) (x ∷ O (cls n)) (λ j xs. Mem y (O j) → Mem y xs) (λ a. List·Memᴰ·tail a) (λ j h a. a) (cls m) (e .listed y m i)

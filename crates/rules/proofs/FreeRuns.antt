@@ -9,23 +9,26 @@ use native.Mathlib.Omega.{arith}
 use native.Mathlib.Nat.{add-assoc, add-zero, zero-add}
 use lib.Dec.{eqb}
 use lib.ListN.{length}
-use borrow.Author.Tests.{eq-eqb, ne-eqb}
+use borrow.Author.Tests.{eqb-true, eq-eqb, ne-eqb}
 use Rattle.words.specs.Choice.{pick}
+use Rattle.words.specs.Sizes.{roundedOf, thresholdOf}
+use Rattle.words.proofs.Laws.Sizes.{threshold-from}
 use Rattle.rules.specs.Ops.{Ops}
 use Rattle.rules.specs.Chunks.{Chunk, free, busy, total, Legal, Calm, usedHead, join, release}
 use Rattle.rules.specs.Exact.{Slot, slot, In, frees}
-use Rattle.rules.specs.Rules.{Figures, byteOf, nameOf, listed}
-use Rattle.rules.specs.Machine.{Model, gaveM}
-use Rattle.rules.specs.LetGo.{letGo, letGoM, emptyCacheM, withoutCacheM, longest}
-use Rattle.rules.specs.FreeRuns.{ended, runsFrom, freeRuns, greatest, Inside}
+use Rattle.rules.specs.Rules.{Figures, byteOf, nameOf, listed, letGo}
+use Rattle.rules.specs.Machine.{Model, gaveM, emptyCacheM, withoutCacheM}
+use Rattle.rules.specs.FreeRuns.{ended, longestRun, runsFrom, freeRuns, greatest, longest, Inside}
 use Rattle.rules.specs.Sound.{Shows}
+use Rattle.rules.specs.Demands.{NoneServes, hand}
 use Rattle.rules.proofs.Part.{legal-front, legal-back}
 use Rattle.rules.proofs.Place.{free-at}
 use Rattle.rules.proofs.Named.{byte-at}
 use Rattle.rules.proofs.Store.{Edition}
 use Rattle.rules.proofs.Longest.{free-longest, longest-short}
-use Rattle.rules.proofs.Follow.{oldest, oldest-gone}
+use Rattle.rules.proofs.Follow.{letGoM, oldest, oldest-gone}
 use Rattle.rules.proofs.LetGo.{place}
+use Rattle.rules.proofs.Demands.{noFit-exact}
 
 -- nothing cached and no two free chunks touch: a run is a free chunk
 runs-free : (e a : ℕ) (cs : List Chunk) → Legal cs → Calm cs → (a ≡ 0) ⊎ (usedHead cs ≡ true) → runsFrom [] e a cs ≡ ended e a (frees (e + a) cs)
@@ -127,6 +130,28 @@ longest-greatest b (c ∷ cs) = go (c .used) (longest-greatest (b + c .len) cs)
     go true r = omega arith
     go false r = omega arith
 
+-- the greatest length of a run and others
+greatest-ended : (e a : ℕ) (F : List Slot) → greatest (ended e a F) ≡ max a (greatest F)
+greatest-ended e a F = go (eqb a 0) refl
+  where
+    go : (t : Bool) → eqb a 0 ≡ t → greatest (pick t F (slot (nameOf e) a ∷ F)) ≡ max a (greatest F)
+    go true q = let z = eqb-true a 0 q in omega arith
+    go false q = refl
+
+-- the longest run is the greatest of the runs' lengths
+longest-among : (ks : List ℕ) (e a : ℕ) (cs : List Chunk) → longestRun ks (e + a) a cs ≡ greatest (runsFrom ks e a cs)
+unfolding longestRun runsFrom
+longest-among ks e a [] = let r = greatest-ended e a [] in omega arith
+longest-among ks e a (c ∷ cs) =
+    let on = ap (λ (b : ℕ). longestRun ks b (a + c .len) cs) (add-assoc e a (c .len)) ∙ longest-among ks e (a + c .len) cs in
+    let off = ap (λ (b : ℕ). longestRun ks b 0 cs) (sym (add-zero (e + a + c .len))) ∙ longest-among ks (e + a + c .len) 0 cs in
+    rw (on, off) (go (pick (c .used) (listed (nameOf (e + a)) ks) true))
+  where
+    go : (t : Bool) → pick t (greatest (runsFrom ks e (a + c .len) cs)) (max a (greatest (runsFrom ks (e + a + c .len) 0 cs)))
+        ≡ greatest (pick t (runsFrom ks e (a + c .len) cs) (ended e a (runsFrom ks (e + a + c .len) 0 cs)))
+    go true = refl
+    go false = sym (greatest-ended e a (runsFrom ks (e + a + c .len) 0 cs))
+
 module _ {S : Type 0} {op : Ops S Figures} {most places : ℕ} (E : Edition op most places) where
   abbrev Sh : S → Model → Type 0
   Sh = Shows op most places
@@ -166,6 +191,20 @@ module _ {S : Type 0} {op : Ops S Figures} {most places : ℕ} (E : Edition op m
       let e = longest-run s m h in (
         λ f. let a = longest-short 0 t (withoutCacheM m .cs) p f in omega arith,
         λ q x n i. let a = free-longest 0 (withoutCacheM m .cs) x n i in omega arith,
+      )
+
+  -- NO FIT, SEEN IN THE LAYOUT: 3 exactly where no cached chunk serves and the longest run does not reach the threshold
+  pub noFit-by-runs : (s : S) (m : Model) → Sh s m → (size : ℕ) → 0 < size → size ≤ 4294967284
+      → let z = roundedOf size in
+      (hand op most places s size .number ≡ 3 → NoneServes m z × (longestRun (m .figs .cached) 0 0 (m .cs) < thresholdOf z))
+      × (NoneServes m z × (longestRun (m .figs .cached) 0 0 (m .cs) < thresholdOf z) → hand op most places s size .number ≡ 3)
+  noFit-by-runs s m h size lo hi =
+      let t = threshold-from (roundedOf size) in
+      let e = longest-among (m .figs .cached) 0 0 (m .cs) ∙ longest-run s m h in
+      let k = noFit-exact E s m h size lo hi in (
+        λ n. let f = k .0 n in let g = longest-short 0 (thresholdOf (roundedOf size)) (withoutCacheM m .cs) (omega arith) (f .lists) in (f .cache, omega arith),
+        λ f. let q = f .1 in
+            k .1 (record { cache = f .0; lists = λ x n i. (let g = free-longest 0 (withoutCacheM m .cs) x n i in omega arith) }),
       )
 
   -- EVERY FREE CHUNK LIES INSIDE one of the merged layout

@@ -49,10 +49,12 @@ pub even : (N n : ℕ) → Node N n → 6 ≤ n → n % 2 ≡ 0
 even N n (inl h) six = absurd (omega arith)
 even N n (inr h) six = let q = h .1 in omega arith
 
-pub six-true : {R : Type 0} (s : Heap R) → length (s .prevs) ≡ 6 → length (s .nexts) ≡ 6 → pick (eqb (length (s .prevs)) 6) (eqb (length (s .nexts)) 6) false ≡ true
+pub six-true : {R : Type 0} (s : Heap R) → length (s .prevs) ≡ 6 → length (s .nexts) ≡ 6
+    → pick (eqb (length (s .prevs)) 6) (eqb (length (s .nexts)) 6) false ≡ true
 six-true s p n = rw (eq-eqb (length (s .prevs)) 6 p) (eq-eqb (length (s .nexts)) 6 n)
 
-pub six-is : {R : Type 0} (s : Heap R) → pick (eqb (length (s .prevs)) 6) (eqb (length (s .nexts)) 6) false ≡ true → (length (s .prevs) ≡ 6) × (length (s .nexts) ≡ 6)
+pub six-is : {R : Type 0} (s : Heap R) → pick (eqb (length (s .prevs)) 6) (eqb (length (s .nexts)) 6) false ≡ true
+    → (length (s .prevs) ≡ 6) × (length (s .nexts) ≡ 6)
 six-is s h = go (eqb (length (s .prevs)) 6) refl (eqb (length (s .nexts)) 6) refl h
   where
     go : (a : Bool) → eqb (length (s .prevs)) 6 ≡ a → (b : Bool) → eqb (length (s .nexts)) 6 ≡ b → pick a b false ≡ true

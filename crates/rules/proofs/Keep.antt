@@ -48,7 +48,8 @@ module _ {S R : Type 0} {op : Ops S R} (L : LinkStore op) (cls : ℕ → ℕ) (c
       (off-ring L cls cls6 O F (p .exact) i h (cls n) (op .next s x) (cls6 n) (next-on L s O (p .rings) (cls n) (a .front) x (a .back) (cls6 n) (a .is)))
 
   -- a link at word w of a part, seen from outside it
-  linked-word : (s : S) (O : ℕ → List ℕ) (cs : List Chunk) (F : List Slot) (w k i lo hi : ℕ) → Part L cls s O cs F → Off i F → k < 6 → Out lo hi i → lo ≤ w → w + 2 ≤ hi
+  linked-word : (s : S) (O : ℕ → List ℕ) (cs : List Chunk) (F : List Slot) (w k i lo hi : ℕ)
+      → Part L cls s O cs F → Off i F → k < 6 → Out lo hi i → lo ≤ w → w + 2 ≤ hi
       → op .word (link op s k (w + 6)) i ≡ op .word s i
   linked-word s O cs F w k i lo hi p h hk o a b =
       link-word L s k (w + 6) i
@@ -84,7 +85,8 @@ module _ {S R : Type 0} {op : Ops S R} (L : LinkStore op) (cls : ℕ → ℕ) (c
           let e = frees-busy L cls cls6 pre post n in
           freed-word s O (busy n ∷ []) n i (omega arith) (g .0) (g .1) (rw e at w) (rw e at h) o
 
-      keep-right : (g : ℕ) → Whole L cls cls6 s O (pre ++ busy n ∷ free g ∷ post) → Off i (frees 0 (pre ++ busy n ∷ free g ∷ post)) → Out (b / 4) ((b + (n + g)) / 4) i
+      keep-right : (g : ℕ) → Whole L cls cls6 s O (pre ++ busy n ∷ free g ∷ post)
+          → Off i (frees 0 (pre ++ busy n ∷ free g ∷ post)) → Out (b / 4) ((b + (n + g)) / 4) i
           → op .word (link op (oneFree op (unlink op s ((b + n) / 4 + 6)) b (n + g)) (cls (n + g)) (b / 4 + 6)) i ≡ op .word s i
       unfolding frees
       keep-right g w h o =
@@ -93,12 +95,14 @@ module _ {S R : Type 0} {op : Ops S R} (L : LinkStore op) (cls : ℕ → ℕ) (c
           let n8 : n % 8 ≡ 0 = l .1 in
           let g8 : g % 8 ≡ 0 = l .2 .1 in
           let p = right-off L cls cls6 pre post s O n g w in
-          freed-word (unlink op s ((b + n) / 4 + 6)) (drop O (cls g) ((b + n) / 4 + 6)) (busy n ∷ free g ∷ []) (n + g) i (omega arith) (omega arith) (omega arith) p
+          let x : ℕ = (b + n) / 4 + 6 in
+          freed-word (unlink op s x) (drop O (cls g) x) (busy n ∷ free g ∷ []) (n + g) i (omega arith) (omega arith) (omega arith) p
           (λ t m. h t (p .sub t m)) o
-          ∙ unlinked-word s O (pre ++ busy n ∷ free g ∷ post) (frees 0 (pre ++ busy n ∷ free g ∷ post)) ((b + n) / 4 + 6) g i w
+          ∙ unlinked-word s O (pre ++ busy n ∷ free g ∷ post) (frees 0 (pre ++ busy n ∷ free g ∷ post)) x g i w
           (rw (frees-append 0 pre (busy n ∷ free g ∷ post)) (Memᴰ·append-right (frees 0 pre) (List·Memᴰ·head refl))) h
 
-      keep-left : (f : ℕ) → Whole L cls cls6 s O (pre ++ free f ∷ busy n ∷ post) → Off i (frees 0 (pre ++ free f ∷ busy n ∷ post)) → Out (b / 4) ((b + (f + n)) / 4) i
+      keep-left : (f : ℕ) → Whole L cls cls6 s O (pre ++ free f ∷ busy n ∷ post)
+          → Off i (frees 0 (pre ++ free f ∷ busy n ∷ post)) → Out (b / 4) ((b + (f + n)) / 4) i
           → op .word (link op (oneFree op (unlink op s (b / 4 + 6)) b (f + n)) (cls (f + n)) (b / 4 + 6)) i ≡ op .word s i
       unfolding frees
       keep-left f w h o =
@@ -114,7 +118,8 @@ module _ {S R : Type 0} {op : Ops S R} (L : LinkStore op) (cls : ℕ → ℕ) (c
 
       keep-both : (f g : ℕ) → Whole L cls cls6 s O (pre ++ free f ∷ busy n ∷ free g ∷ post) → Off i (frees 0 (pre ++ free f ∷ busy n ∷ free g ∷ post))
           → Out (b / 4) ((b + (f + (n + g))) / 4) i
-          → op .word (link op (oneFree op (unlink op (unlink op s (b / 4 + 6)) ((b + f + n) / 4 + 6)) b (f + (n + g))) (cls (f + (n + g))) (b / 4 + 6)) i ≡ op .word s i
+          → op .word (link op (oneFree op (unlink op (unlink op s (b / 4 + 6)) ((b + f + n) / 4 + 6)) b (f + (n + g))) (cls (f + (n + g))) (b / 4 + 6)) i
+          ≡ op .word s i
       unfolding frees
       keep-both f g w h o =
           let l = legal-back pre (free f ∷ busy n ∷ free g ∷ post) (w .legal) in
@@ -134,7 +139,8 @@ module _ {S R : Type 0} {op : Ops S R} (L : LinkStore op) (cls : ℕ → ℕ) (c
           (rw (frees-append 0 pre (free f ∷ busy n ∷ free g ∷ post)) (Memᴰ·append-right (frees 0 pre) (List·Memᴰ·head refl))) h
 
     -- TAKING leaves alone what is outside the chunk that it takes
-    pub take-keeps : (s : S) (O : ℕ → List ℕ) (n z i : ℕ) → 16 ≤ z → z % 8 ≡ 0 → Whole L cls cls6 s O (pre ++ free n ∷ post) → Off i (frees 0 (pre ++ free n ∷ post))
+    pub take-keeps : (s : S) (O : ℕ → List ℕ) (n z i : ℕ) → 16 ≤ z → z % 8 ≡ 0
+        → Whole L cls cls6 s O (pre ++ free n ∷ post) → Off i (frees 0 (pre ++ free n ∷ post))
         → Out (b / 4) ((b + n) / 4) i
         → op .word (takeStep op cls s b n z) i ≡ op .word s i
     unfolding takeStep wholeUsed cutUsed
@@ -148,7 +154,7 @@ module _ {S R : Type 0} {op : Ops S R} (L : LinkStore op) (cls : ℕ → ℕ) (c
             (rw (frees-free L cls cls6 pre post n) (Memᴰ·append-right (frees 0 pre) (List·Memᴰ·head refl))) h
 
         go : (t : Bool) → leb (z + 12) n ≡ t
-            → op .word (pick t (link op (cutUsed op (unlink op s (b / 4 + 6)) b n z) (cls (n - z)) ((b + z) / 4 + 6)) (wholeUsed op (unlink op s (b / 4 + 6)) b n)) i
+            → (let u = unlink op s (b / 4 + 6) in op .word (pick t (link op (cutUsed op u b n z) (cls (n - z)) ((b + z) / 4 + 6)) (wholeUsed op u b n)) i)
             ≡ op .word s i
         go true e =
             let zn : z + 16 ≤ n = (let q = leb-true (z + 12) n e in let n8 = (legal-back pre (free n ∷ post) (w .legal)) .1 in omega arith) in
@@ -168,17 +174,20 @@ module _ {S R : Type 0} {op : Ops S R} (L : LinkStore op) (cls : ℕ → ℕ) (c
   module _ (s : S) (O : ℕ → List ℕ) (n i : ℕ) where
     -- what is to be shown, of a layout cs and the numbers that the steps are taken with
     Kept : List Chunk → ℕ → ℕ → ℕ → Type 0
-    Kept cs a f g = Whole L cls cls6 s O cs → Off i (frees 0 cs) → Out (a / 4) ((a + (f + (n + g))) / 4) i → op .word (mergeStep op cls s a f n g) i ≡ op .word s i
+    Kept cs a f g = Whole L cls cls6 s O cs → Off i (frees 0 cs) → Out (a / 4) ((a + (f + (n + g))) / 4) i
+        → op .word (mergeStep op cls s a f n g) i ≡ op .word s i
 
     kept-closed : (pre post : List Chunk) → lastUsed true pre ≡ true → Legal post → Kept (pre ++ busy n ∷ post) (0 + total pre) 0 (freeHead post)
     unfolding Kept mergeStep merge
     kept-closed pre post u l =
         right-cases L cls cls6 s O n (λ q g. Kept (pre ++ busy n ∷ q) (0 + total pre) 0 g)
         (λ q v lq w h o. rw (add-zero n, zero-add n) (keep-neither pre q u s O n i w h (rw (add-zero n, zero-add n) at o)))
-        (λ q g g16 w h o. rw (lt-ltb 0 g (omega arith), zero-add (n + g), add-zero (0 + total pre)) (keep-right pre q u s O n i g w h (rw (zero-add (n + g)) at o)))
+        (λ q g g16 w h o. rw (lt-ltb 0 g (omega arith), zero-add (n + g), add-zero (0 + total pre))
+        (keep-right pre q u s O n i g w h (rw (zero-add (n + g)) at o)))
         post l
 
-    kept-open : (p post : List Chunk) (f : ℕ) → lastUsed true p ≡ true → 16 ≤ f → Legal post → Kept (p ++ free f ∷ busy n ∷ post) (0 + total p) f (freeHead post)
+    kept-open : (p post : List Chunk) (f : ℕ) → lastUsed true p ≡ true → 16 ≤ f → Legal post
+        → Kept (p ++ free f ∷ busy n ∷ post) (0 + total p) f (freeHead post)
     unfolding Kept mergeStep merge
     kept-open p post f u f16 l =
         right-cases L cls cls6 s O n (λ q g. Kept (p ++ free f ∷ busy n ∷ q) (0 + total p) f g)
@@ -207,7 +216,8 @@ module _ {S R : Type 0} {op : Ops S R} (L : LinkStore op) (cls : ℕ → ℕ) (c
             (rw (e, freeLast-snoc 0 p f, z) at o))
 
     -- RELEASING leaves alone what is outside the part that becomes free
-    pub release-keeps : (pre post : List Chunk) → Calm (pre ++ busy n ∷ post) → Whole L cls cls6 s O (pre ++ busy n ∷ post) → Off i (frees 0 (pre ++ busy n ∷ post))
+    pub release-keeps : (pre post : List Chunk) → Calm (pre ++ busy n ∷ post)
+        → Whole L cls cls6 s O (pre ++ busy n ∷ post) → Off i (frees 0 (pre ++ busy n ∷ post))
         → Out ((0 + total pre - freeLast 0 pre) / 4) ((0 + total pre - freeLast 0 pre + (freeLast 0 pre + (n + freeHead post))) / 4) i
         → op .word (releaseStep op cls s (0 + total pre) n) i ≡ op .word s i
     unfolding releaseStep Kept

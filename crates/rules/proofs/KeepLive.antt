@@ -61,15 +61,18 @@ two-out b (x ∷ X) c Y (p ∷ P) d Q i e lo hi =
 pub payload-out : (X : List Chunk) (m : ℕ) (Y : List Chunk) (i : ℕ) → Payload (X ++ free m ∷ Y) i → Out ((0 + total X) / 4) ((0 + total X + m) / 4) i
 payload-out X m Y i p = go (two-out 0 X (free m) Y (p .pre) (busy (p .size)) (p .post) i (p .is) (p .low) (p .high))
   where
-    go : ((free m ≡ busy (p .size)) × (total X ≡ total (p .pre))) ⊎ Out ((0 + total X) / 4) ((0 + total X + m) / 4) i → Out ((0 + total X) / 4) ((0 + total X + m) / 4) i
+    go : ((free m ≡ busy (p .size)) × (total X ≡ total (p .pre))) ⊎ Out ((0 + total X) / 4) ((0 + total X + m) / 4) i
+        → Out ((0 + total X) / 4) ((0 + total X + m) / 4) i
     go (inl r) = absurd (let u : false ≡ true = ap (λ (c : Chunk). c .used) (r .0) in let z : _≡_ {A = ℕ} 0 1 = cc in omega arith)
     go (inr o) = o
 
 -- nor in another used one
-pub payload-other : (X : List Chunk) (m : ℕ) (Y : List Chunk) (i : ℕ) (p : Payload (X ++ busy m ∷ Y) i) → total X ≢ total (p .pre) → Out ((0 + total X) / 4) ((0 + total X + m) / 4) i
+pub payload-other : (X : List Chunk) (m : ℕ) (Y : List Chunk) (i : ℕ) (p : Payload (X ++ busy m ∷ Y) i) → total X ≢ total (p .pre)
+    → Out ((0 + total X) / 4) ((0 + total X + m) / 4) i
 payload-other X m Y i p n = go (two-out 0 X (busy m) Y (p .pre) (busy (p .size)) (p .post) i (p .is) (p .low) (p .high))
   where
-    go : ((busy m ≡ busy (p .size)) × (total X ≡ total (p .pre))) ⊎ Out ((0 + total X) / 4) ((0 + total X + m) / 4) i → Out ((0 + total X) / 4) ((0 + total X + m) / 4) i
+    go : ((busy m ≡ busy (p .size)) × (total X ≡ total (p .pre))) ⊎ Out ((0 + total X) / 4) ((0 + total X + m) / 4) i
+        → Out ((0 + total X) / 4) ((0 + total X + m) / 4) i
     go (inl r) = absurd (n (r .1))
     go (inr o) = o
 
@@ -126,4 +129,5 @@ module _ {S R : Type 0} {op : Ops S R} (L : LinkStore op) (cls : ℕ → ℕ) (c
             (shape-open p post f (calm-front p (free f ∷ busy n ∷ post) k′) (calm-last p f (busy n ∷ post) k′) l)
 
     pub shape-out : (cs : List Chunk) (a m i : ℕ) → Shape cs a m → Payload cs i → Out (a / 4) ((a + m) / 4) i
-    shape-out cs a m i h p = subst (λ (x : ℕ). Out (x / 4) ((x + m) / 4) i) (h .at) (payload-out (h .front) m (h .back) i (subst (λ ds. Payload ds i) (h .is) p))
+    shape-out cs a m i h p =
+        subst (λ (x : ℕ). Out (x / 4) ((x + m) / 4) i) (h .at) (payload-out (h .front) m (h .back) i (subst (λ ds. Payload ds i) (h .is) p))

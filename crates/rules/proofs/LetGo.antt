@@ -23,9 +23,8 @@ use Rattle.rules.specs.Ops.{Ops}
 use Rattle.rules.specs.Steps.{lengthAt, releaseChunk}
 use Rattle.rules.specs.Chunks.{Chunk, busy, total, Legal, Calm, release}
 use Rattle.rules.specs.Place.{UsedAt, indexAt, usedAt}
-use Rattle.rules.specs.Rules.{Figures, byteOf, nameOf, listed, withCached, released, live}
-use Rattle.rules.specs.Machine.{Model, sizeM, liveM, gaveM}
-use Rattle.rules.specs.LetGo.{withoutCacheF, letGo, emptyCache, withoutCache, letGoM, emptyCacheM, withoutCacheM}
+use Rattle.rules.specs.Rules.{Figures, byteOf, nameOf, listed, withCached, released, withoutCacheF, letGo, emptyCache, withoutCache, live}
+use Rattle.rules.specs.Machine.{Model, sizeM, liveM, gaveM, emptyCacheM, withoutCacheM}
 use Rattle.rules.specs.Demands.{LiveAt, LiveWord}
 use Rattle.rules.proofs.Part.{legal-front, legal-back}
 use Rattle.rules.proofs.Calls.{Whole, total-8}
@@ -39,7 +38,7 @@ use Rattle.rules.proofs.Live.{Payload}
 use Rattle.rules.specs.Sound.{Shows}
 use Rattle.rules.specs.Test.{soundᵇ}
 use Rattle.rules.proofs.Store.{Edition}
-use Rattle.rules.proofs.Follow.{L, whole, used-size, used-same, in-use-held, left-there, oldest, oldest-gone, without-cache-shows, live-same}
+use Rattle.rules.proofs.Follow.{letGoM, L, whole, used-size, used-same, in-use-held, left-there, oldest, oldest-gone, without-cache-shows, live-same}
 use Rattle.rules.proofs.LiveSums.{heldSum}
 use Rattle.rules.proofs.Decide.{sound-true, true-sound}
 

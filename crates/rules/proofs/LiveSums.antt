@@ -1,4 +1,4 @@
--- WHAT TASKS HOLD: the sum of live lengths, beside the sum of cached ones, is the sum of used lengths; so a chunk cached or uncached moves its length from
+-- WHAT TASKS HOLD: the sum of live lengths and the sum of cached ones make the sum of used lengths; so a chunk cached or uncached moves its length from
 -- one to the other. Assumes nothing.
 --     live-and-held     live lengths and cached lengths make up the used ones
 --     held-same, held-last     the cached lengths after the chunks, or the cache, changed

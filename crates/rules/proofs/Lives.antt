@@ -29,13 +29,16 @@ use Rattle.rules.specs.Search as rule
 use Rattle.rules.proofs.Search.{find-fits, Fits, find-counts, Counts}
 use Rattle.rules.specs.Steps.{portion}
 use Rattle.rules.specs.Rules.{Figures, Outcome, byteOf, nameOf, Chosen, none, one, behind, serves, choose, listed, withCached, counted}
-use Rattle.rules.specs.Machine.{Model, sizeM, tookM, searched, searchM, fromListM, fromCacheM, handOutM, liveM, gaveM, settledM, takeBackM}
+use Rattle.rules.specs.Rules.{withoutCacheF, withoutCache}
+use Rattle.rules.specs.Machine.{Model, sizeM, tookM, searched, searchM, gaveM, withoutCacheM, fromMergedM, fromListM, fromCacheM, handOutM, liveM, settledM}
+use Rattle.rules.specs.Machine.{takeBackM}
 use Rattle.rules.specs.Sound.{Shows, Sound}
 use Rattle.rules.specs.Test.{soundᵇ}
 use Rattle.rules.specs.Demands.{hand, back}
 use Rattle.rules.specs.Lives.{liveAt, HandedOut, TakenBack, Inside, Apart, Lives}
 use Rattle.rules.proofs.Demands.{hand-follows, back-follows}
-use Rattle.rules.proofs.Follow.{Picked, choose-picked, met-free, live-same, live-is, live-len, snoc-used, r16, listed-true, listed-false}
+use Rattle.rules.proofs.Follow.{Picked, choose-picked, without-cache-shows, met-free, live-same, live-is, live-len, snoc-used, r16, listed-true, listed-false}
+use Rattle.rules.proofs.LetGo.{without-cache-figures, empty-cache-live}
 use Rattle.rules.proofs.Cases.{hand-cases, back-cases, handM-cases, backM-cases}
 use Rattle.rules.proofs.Decide.{sound-true}
 use Rattle.rules.proofs.LayoutFacts.{taken-used, taken-there, taken-only, free-there, release-used, release-gone, used-len, inside}
@@ -257,52 +260,77 @@ module _ {S : Type 0} {op : Ops S Figures} {most places : ℕ} (E : Edition op m
         mine ∙ ap (λ (t : ℕ). portion t z) (sym sz),
       )
 
-  -- with it how long it is, and what the figures are
+  -- something was compared for it, and what the figures are
+  listed-model : (z x c : ℕ) → 16 ≤ z → searchM m z ≡ at x c
+      → let l = liveM (tookM m x (sizeM m x) z) (byteOf x + 4) in
+      NewM m (tookM m x (sizeM m x) z) z (byteOf x + 4) × (0 < c) × (tookM m x (sizeM m x) z .figs ≡ counted (m .figs) l (byteOf x + 4 - 4 + l))
+  unfolding tookM
+  listed-model z x c z16 e =
+      let w = from-list z x c z16 e in
+      let k : Counts (sizeM m) z (searched m z) 0 (at x c) = subst (Counts (sizeM m) z (searched m z) 0) e (find-counts (sizeM m) z (searched m z) 0) in
+      let d = k .3 in
+      let b : byteOf x ≡ byteOf x + 4 - 4 = omega arith in (
+        w .0,
+        omega arith,
+        ap (λ (l : ℕ). counted (m .figs) l (byteOf x + l)) (sym (w .1))
+            ∙ ap (λ (t : ℕ). counted (m .figs) (liveM (tookM m x (sizeM m x) z) (byteOf x + 4)) (t + liveM (tookM m x (sizeM m x) z) (byteOf x + 4))) b,
+      )
+
+module _ {S : Type 0} {op : Ops S Figures} {most places : ℕ} (E : Edition op most places) (s : S) (m : Model) (h : Shows op most places s m) where
+  -- EMPTYING changes nothing live
+  merged-live : (q : ℕ) → liveM (withoutCacheM m) q ≡ liveM m q
+  merged-live q = empty-cache-live E (m .figs .cached) s m q h refl
+
+  -- nor the figures but committed and the cache
+  merged-figures : withoutCacheM m .figs ≡ withoutCacheF (m .figs)
+  merged-figures = sym (without-cache-shows E s m h .figs) ∙ without-cache-figures E s m h ∙ ap withoutCacheF (h .figs)
+
+  -- HANDED OUT: with it how long it is, and what the figures are
   abbrev ServedM : ℕ → Outcome Model → Type 0
   ServedM z o =
+      let l = liveM (o .after) (o .value) in
       o .number ≡ 0 → NewM m (o .after) z (o .value)
-      × (o .compared ≡ 0 → o .after .figs ≡ withCached (m .figs) (m .figs .inUse + liveM (o .after) (o .value)) (o .after .figs .cached))
-      × (0 < o .compared → o .after .figs ≡ counted (m .figs) (liveM (o .after) (o .value)) (o .value - 4 + liveM (o .after) (o .value)))
+      × (o .compared ≡ 0 → o .after .figs ≡ withCached (m .figs) (m .figs .inUse + l) (o .after .figs .cached))
+      × (0 < o .compared
+      → (o .after .figs ≡ counted (m .figs) l (o .value - 4 + l)) ⊎ (o .after .figs ≡ counted (withoutCacheF (m .figs)) l (o .value - 4 + l)))
 
   -- a handout of the rules without memory does it
   handed-model : (size : ℕ) → ServedM (roundedOf size) (handOutM m size)
-  unfolding tookM
   handed-model size =
-      handM-cases m size (ServedM (roundedOf size)) (λ e n. absurd (let u : _≡_ {A = ℕ} 1 0 = n in omega arith))
-      (λ e n. absurd (let u : _≡_ {A = ℕ} 2 0 = n in omega arith))
-      (λ a b. served (choose (sizeM m) (roundedOf size) (m .figs .cached)) (choose-picked (sizeM m) (roundedOf size) (m .figs .cached))
-      (choose-rest (sizeM m) (roundedOf size) (m .figs .cached)))
+      handM-cases m size (ServedM z) (λ e n. absurd (let u : _≡_ {A = ℕ} 1 0 = n in omega arith)) (λ e n. absurd (let u : _≡_ {A = ℕ} 2 0 = n in omega arith))
+      (λ a b. served (choose (sizeM m) z (m .figs .cached)) (choose-picked (sizeM m) z (m .figs .cached)) (choose-rest (sizeM m) z (m .figs .cached)))
     where
-      served : (c : Chosen) → Picked (sizeM m) (roundedOf size) (m .figs .cached) c → Rest (m .figs .cached) c → ServedM (roundedOf size)
-          (fromCacheM m (roundedOf size) c)
-      served (one x ks) p r = λ n. let w = from-cache (roundedOf size) x ks (m .figs .inUse + sizeM m x) p r in (
+      z : ℕ
+      z = roundedOf size
+
+      n : Model
+      n = withoutCacheM m
+
+      again : (c : ℕ) (f : rule.Found) → searchM n z ≡ f → ServedM z (fromMergedM m z c f)
+      again c (at x d) e k =
+          let w = listed-model E (withoutCache op s) n (without-cache-shows E s m h) z x d (r16 size) e in
+          let v = w .0 in
+          let l = liveM (tookM n x (sizeM n x) z) (byteOf x + 4) in
+          let d0 = w .1 in (
+            record { new = sym (merged-live (byteOf x + 4)) ∙ v .new; enough = v .enough; slack = v .slack; others = λ q y. v .others q y ∙ merged-live q },
+            λ y. absurd (omega arith),
+            λ y. inr (w .2 ∙ ap (λ (g : Figures). counted g l (byteOf x + 4 - 4 + l)) merged-figures),
+          )
+      again c (rule.nowhere d) e k = absurd (let u : _≡_ {A = ℕ} 3 0 = k in omega arith)
+      again c rule.lost e k = absurd (let u : _≡_ {A = ℕ} 5 0 = k in omega arith)
+
+      found : (f : rule.Found) → searchM m z ≡ f → ServedM z (fromListM m z f)
+      found (at x c) e k = let w = listed-model E s m h z x c (r16 size) e in let c0 = w .1 in (w .0, λ y. absurd (omega arith), λ y. inl (w .2))
+      found (rule.nowhere c) e k = again c (searchM n z) refl k
+      found rule.lost e k = absurd (let u : _≡_ {A = ℕ} 5 0 = k in omega arith)
+
+      served : (c : Chosen) → Picked (sizeM m) z (m .figs .cached) c → Rest (m .figs .cached) c → ServedM z (fromCacheM m z c)
+      served (one x ks) p r = λ k. let w = from-cache E s m h z x ks (m .figs .inUse + sizeM m x) p r in (
         w .0,
         λ c. ap (λ (l : ℕ). withCached (m .figs) (m .figs .inUse + l) ks) (sym (w .1)),
         λ c. absurd (let u : _<_ 0 0 = c in omega arith),
       )
-      served none p r = found (searchM m (roundedOf size)) refl
-        where
-          -- something was compared
-          some : (x c : ℕ) → searchM m (roundedOf size) ≡ at x c → 0 < c
-          some x c e =
-              let k : Counts (sizeM m) (roundedOf size) (searched m (roundedOf size)) 0 (at x c) =
-              subst (Counts (sizeM m) (roundedOf size) (searched m (roundedOf size)) 0) e
-              (find-counts (sizeM m) (roundedOf size) (searched m (roundedOf size)) 0) in
-              let d = k .3 in
-              omega arith
-
-          found : (f : rule.Found) → searchM m (roundedOf size) ≡ f → ServedM (roundedOf size) (fromListM m (roundedOf size) f)
-          found (at x c) e n =
-              let w = from-list (roundedOf size) x c (r16 size) e in
-              let b : byteOf x ≡ byteOf x + 4 - 4 = omega arith in (
-                w .0,
-                λ z. absurd (let k = some x c e in omega arith),
-                λ z. ap (λ (l : ℕ). counted (m .figs) l (byteOf x + l)) (sym (w .1))
-                    ∙ ap (λ (t : ℕ). counted (m .figs) (liveM (tookM m x (sizeM m x) (roundedOf size)) (byteOf x + 4))
-                    (t + liveM (tookM m x (sizeM m x) (roundedOf size)) (byteOf x + 4))) b,
-              )
-          found (rule.nowhere c) e n = absurd (let u : _≡_ {A = ℕ} 3 0 = n in omega arith)
-          found rule.lost e n = absurd (let u : _≡_ {A = ℕ} 5 0 = n in omega arith)
+      served none p r = found (searchM m z) refl
 
   -- TAKEN BACK
   module _ (p : ℕ) (alive : liveM m p ≢ 0) where
@@ -539,9 +567,12 @@ module _ {S : Type 0} {op : Ops S Figures} {most places : ℕ} (E : Edition op m
       ≡ withCached (op .rest s) (op .rest s .inUse + liveAt op most places (hand op most places s size .after) (hand op most places s size .value))
       (op .rest (hand op most places s size .after) .cached))
       × (0 < hand op most places s size .compared
-      → op .rest (hand op most places s size .after)
+      → (op .rest (hand op most places s size .after)
       ≡ counted (op .rest s) (liveAt op most places (hand op most places s size .after) (hand op most places s size .value))
       (hand op most places s size .value - 4 + liveAt op most places (hand op most places s size .after) (hand op most places s size .value)))
+      ⊎ (op .rest (hand op most places s size .after)
+      ≡ counted (withoutCacheF (op .rest s)) (liveAt op most places (hand op most places s size .after) (hand op most places s size .value))
+      (hand op most places s size .value - 4 + liveAt op most places (hand op most places s size .after) (hand op most places s size .value))))
   handed-figures s size n =
       let k = served-sound s size n in
       let m = k .0 in

@@ -11,8 +11,9 @@ use Rattle.rules.specs.Exact.{slot, In, frees}
 use Rattle.rules.specs.Place.{indexAt}
 use Rattle.rules.proofs.Place.{free-at}
 use Rattle.rules.specs.Rules.{byteOf}
-use Rattle.rules.specs.Machine.{Model, gaveM}
-use Rattle.rules.specs.LetGo.{letGoM, emptyCacheM, withoutCacheM, longest}
+use Rattle.rules.specs.Machine.{Model, gaveM, emptyCacheM, withoutCacheM}
+use Rattle.rules.specs.FreeRuns.{longest}
+use Rattle.rules.proofs.Follow.{letGoM}
 
 join-longest : (c : Chunk) (cs : List Chunk) → longest (c ∷ cs) ≤ longest (join c cs)
 unfolding join

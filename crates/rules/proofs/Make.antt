@@ -37,7 +37,8 @@ module _ {S R : Type 0} {op : Ops S R} (L : LinkStore op) (b16 : 16 ≤ L .bytes
     legal = (b16, b8, tt);
     size = omega arith;
     tags = (
-      L .word-setWord′ s2 _ _ 0 (omega arith) ∙ L .word-setWord′ s1 _ _ 0 (omega arith) ∙ L .word-setWord s 0 _ (r .good) (L .inw 0 (omega arith)) ∙ omega arith,
+      L .word-setWord′ s2 _ _ 0 (omega arith) ∙ L .word-setWord′ s1 _ _ 0 (omega arith)
+          ∙ L .word-setWord s 0 _ (r .good) (L .inw 0 (omega arith)) ∙ omega arith,
       λ e. ap (λ (i : ℕ). op .word s3 i) (let q : (0 + L .bytes) / 4 - 1 ≡ 0 + L .bytes / 4 - 1 = omega arith in q)
           ∙ L .word-setWord′ s2 _ _ (0 + L .bytes / 4 - 1) (omega arith) ∙ L .word-setWord s1 _ _ g1 (L .inw (0 + L .bytes / 4 - 1) (omega arith)),
       ap (λ (i : ℕ). op .word s3 (i / 4)) (omega arith) ∙ L .word-setWord s2 _ _ g2 (L .inw (L .bytes / 4) (omega arith)),

@@ -52,7 +52,8 @@ byte-at pre x l e = let h = total-8 pre l in let k : total pre / 4 ≡ 2 * (tota
 
 module _ {S R : Type 0} {op : Ops S R} (L : LinkStore op) (cls : ℕ → ℕ) (cls6 : (n : ℕ) → cls n < 6) (s : S) (O : ℕ → List ℕ) where
   -- a free chunk's length, read from its header
-  pub size-at : (pre : List Chunk) (n : ℕ) (post : List Chunk) (x : ℕ) → x ≡ (0 + total pre) / 4 + 6 → Whole L cls cls6 s O (pre ++ free n ∷ post) → lengthAt op s x ≡ n
+  pub size-at : (pre : List Chunk) (n : ℕ) (post : List Chunk) (x : ℕ) → x ≡ (0 + total pre) / 4 + 6
+      → Whole L cls cls6 s O (pre ++ free n ∷ post) → lengthAt op s x ≡ n
   size-at pre n post x e w =
       let l = legal-back pre (free n ∷ post) (w .legal) in
       let t = tags-back (op .word s) 0 true pre (free n ∷ post) (w .tags) in
@@ -71,10 +72,14 @@ module _ {S R : Type 0} {op : Ops S R} (L : LinkStore op) (cls : ℕ → ℕ) (c
         ∙ sym (ap (λ ds. lenAt ds (byteOf x)) (f .is) ∙ len-at (f .pre) (free (r .0)) (f .post) (byteOf x) lp
         (byte-at (f .pre) x lp (f .named) ∙ zero-add (total (f .pre))))
 
+    -- what a list names is free
+    listed-free : (j x : ℕ) → j < 6 → Mem x (O j) → Mem x (names (frees 0 cs))
+    listed-free j x hj i = let r = w .exact .only j x hj i in in-names (slot x (r .0)) (frees 0 cs) (r .1)
+
     -- how many chunks a list can hold, and all lists together
     pub order-few : (j : ℕ) → j < 6 → length (O j) ≤ length cs
     order-few j hj =
-        let a = no-more (O j) (names (frees 0 cs)) (w .rings .once j hj) (λ x i. let r = w .exact .only j x hj i in in-names (slot x (r .0)) (frees 0 cs) (r .1)) in
+        let a = no-more (O j) (names (frees 0 cs)) (w .rings .once j hj) (λ x i. listed-free j x hj i) in
         let b = names-few 0 cs in
         omega arith
 
@@ -82,6 +87,6 @@ module _ {S R : Type 0} {op : Ops S R} (L : LinkStore op) (cls : ℕ → ℕ) (c
     listed-few n k h =
         let a = no-more (inTurn O n k) (names (frees 0 cs))
         (turn-distinct O n k (λ j q. w .rings .once j (omega arith)) (λ i j x p q. w .rings .apart i j x (omega arith) (omega arith)))
-        (λ x i. let t = in-turn O n k x i in let hi = t .2 in let r = w .exact .only (t .0) x (omega arith) (t .3) in in-names (slot x (r .0)) (frees 0 cs) (r .1)) in
+        (λ x i. let t = in-turn O n k x i in let hi = t .2 in listed-free (t .0) x (omega arith) (t .3)) in
         let b = names-few 0 cs in
         omega arith

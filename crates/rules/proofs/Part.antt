@@ -58,9 +58,11 @@ module _ {S R : Type 0} {op : Ops S R} (L : LinkStore op) (cls : ℕ → ℕ) (c
       legal = p .legal;
       size = p .size;
       tags = tags-owned (op .word s) (op .word (unlink op s x)) 0 true cs (p .legal)
-          (λ i h. unlink-word L s x i
-          (off-ring O (F ++ slot x n ∷ G) (p .exact) i (λ t m. h t (p .sub t m)) (cls n) (op .prev s x) (cls6 n) (prev-on L s O (p .rings) (cls n) ys x zs (cls6 n) is))
-          (off-ring O (F ++ slot x n ∷ G) (p .exact) i (λ t m. h t (p .sub t m)) (cls n) (op .next s x) (cls6 n) (next-on L s O (p .rings) (cls n) ys x zs (cls6 n) is)))
+          (λ i h.
+          let off = off-ring O (F ++ slot x n ∷ G) (p .exact) i (λ t m. h t (p .sub t m)) (cls n) in
+          unlink-word L s x i
+          (off (op .prev s x) (cls6 n) (prev-on L s O (p .rings) (cls n) ys x zs (cls6 n) is))
+          (off (op .next s x) (cls6 n) (next-on L s O (p .rings) (cls n) ys x zs (cls6 n) is)))
           (p .tags);
     }
 
@@ -97,7 +99,8 @@ module _ {S R : Type 0} {op : Ops S R} (L : LinkStore op) (cls : ℕ → ℕ) (c
     outside m = frees 0 pre ++ frees (b + m) post
 
     -- no slot outside reaches into the part, nor names it
-    pub outside-off : (m : ℕ) → Legal pre → Legal post → (i : ℕ) → b / 4 ≤ i → i ≤ (b + m) / 4 → (t : Slot) → In t (outside m) → t .name < i + 6 → i + 4 ≤ t .name → ⊥
+    pub outside-off : (m : ℕ) → Legal pre → Legal post → (i : ℕ) → b / 4 ≤ i → i ≤ (b + m) / 4
+        → (t : Slot) → In t (outside m) → t .name < i + 6 → i + 4 ≤ t .name → ⊥
     outside-off m lp lq i h k t u p q = go (List·Memᴰ·append-cases (frees 0 pre) u)
       where
         go : In t (frees 0 pre) ⊎ In t (frees (b + m) post) → ⊥
@@ -111,7 +114,8 @@ module _ {S R : Type 0} {op : Ops S R} (L : LinkStore op) (cls : ℕ → ℕ) (c
         go (inl v) = let r = frees-from 0 pre lp t v in omega arith
         go (inr v) = let r = frees-from (b + m) post lq t v in omega arith
 
-    pub write-rings : (s : S) (m i v : ℕ) → Legal pre → Legal post → Exact cls O (outside m) → b / 4 ≤ i → i ≤ (b + m) / 4 → Rings L s O → Rings L (op .setWord s i v) O
+    pub write-rings : (s : S) (m i v : ℕ) → Legal pre → Legal post → Exact cls O (outside m) → b / 4 ≤ i → i ≤ (b + m) / 4
+        → Rings L s O → Rings L (op .setWord s i v) O
     write-rings s m i v lp lq e h k r = rings-write L s O i v (off-ring O (outside m) e i (outside-off m lp lq i h k)) r
 
     pub retag : (s s′ : S) (mid mid′ : List Chunk) (m : ℕ) → total mid ≡ m → total mid′ ≡ m → Legal mid′ → Part L cls s O (pre ++ (mid ++ post)) (outside m)
@@ -124,7 +128,8 @@ module _ {S R : Type 0} {op : Ops S R} (L : LinkStore op) (cls : ℕ → ℕ) (c
       sub = λ t i. rw (frees-append 0 pre (mid′ ++ post), frees-append (0 + total pre) mid′ post, e) (wide t (List·Memᴰ·append-cases (frees 0 pre) i));
       legal = legal-join pre (mid′ ++ post) lp (legal-join mid′ post lm lq);
       size = let q = p .size in
-          let x = total-append pre (mid′ ++ post) in let y = total-append mid′ post in let z = total-append mid post in let w = total-append pre (mid ++ post) in
+          let x = total-append pre (mid′ ++ post) in let y = total-append mid′ post in
+          let z = total-append mid post in let w = total-append pre (mid ++ post) in
           omega arith;
       tags =
           tags-join (op .word s′) 0 true pre (mid′ ++ post)

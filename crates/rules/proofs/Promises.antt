@@ -14,20 +14,21 @@ use Rattle.words.specs.Sizes.{roundedOf}
 use Rattle.rules.specs.Lists.{Mem}
 use Rattle.rules.specs.Ops.{Ops}
 use Rattle.rules.specs.State.{ops}
-use Rattle.rules.specs.Rules.{Figures, Outcome, says, byteOf, nameOf, withCached, counted}
-use Rattle.rules.specs.Machine.{Model, ask, give, sizeM, liveM, gaveM, settledM}
+use Rattle.rules.specs.Rules.{Figures, Outcome, says, byteOf, nameOf, serves, withCached, counted, withoutCache, withoutCacheF}
+use Rattle.rules.specs.Machine.{Model, ask, give, sizeM, liveM, gaveM, settledM, withoutCacheM}
+use Rattle.rules.specs.Exact.{slot, In, frees}
 use Rattle.rules.specs.Sound.{Shows, Sound}
 use Rattle.rules.specs.Test.{soundᵇ}
-use Rattle.rules.specs.Demands.{hand, back}
+use Rattle.rules.specs.Demands.{NoFit, hand, back}
 use Rattle.rules.specs.Runs.{call}
 use Rattle.rules.specs.Claims.{Allowable}
 use Rattle.rules.specs.Lives.{liveAt}
 use Rattle.rules.specs.Promises.{AsTheMachine, RunAsTheMachine, Unfit, ServedExactly, ThreeExactly, FiveExactly, TakenExactly, FourExactly, FewCompared}
 use Rattle.rules.specs.Promises.{CountedUp, HandedFigures, TakenFigures, Promises}
 use Rattle.rules.proofs.Store.{Edition}
-use Rattle.rules.proofs.Follow.{live-last}
+use Rattle.rules.proofs.Follow.{live-last, used-same, without-cache-shows}
 use Rattle.rules.proofs.Cases.{hand-cases, back-cases, handM-cases, serveM-cases, backM-cases}
-use Rattle.rules.proofs.Decide.{sound-true}
+use Rattle.rules.proofs.Decide.{sound-true, layout-unique}
 use Rattle.rules.proofs.Demands.{hand-follows, back-follows, hand-fine, back-fine, hand-damaged, back-damaged, noFit-exact, compared-small}
 use Rattle.rules.proofs.Runs.{follows, run-follows}
 use Rattle.rules.proofs.Lives.{served-sound, settled-sound, live-shown, handed-figures}
@@ -76,13 +77,37 @@ module _ {S : Type 0} {op : Ops S Figures} {most places : ℕ} (E : Edition op m
           (λ z. absurd (let q = a .1 in omega arith))
           (λ p q f k. absurd (k refl)) (λ p q f k. f) n)
 
+  -- no fit on the model, told of the state
+  unfit-told : (s : S) (m : Model) (h : Shows op most places s m) (z : ℕ) → NoFit m z → Unfit op most places s z
+  unfit-told s m h z w =
+      record {
+        sound = (m, h);
+        cache = λ x i. let j = subst (λ (f : Figures). Mem x (f .cached)) (h .figs) i in
+            let u = h .cache .used x j in
+            ap (λ (n : ℕ). serves n z) (used-same E s m h x (u .0) (u .1)) ∙ w .cache x j;
+        merged = withoutCacheM m;
+        shows = without-cache-shows E s m h;
+        lists = w .lists;
+      }
+
+  -- and the other way
+  unfit-shown : (s : S) (m : Model) (h : Shows op most places s m) (z : ℕ) → Unfit op most places s z → NoFit m z
+  unfit-shown s m h z w =
+      let c = layout-unique E (withoutCache op s) (withoutCacheM m) (w .merged) (without-cache-shows E s m h) (w .shows) in
+      record {
+        cache = λ x j. let u = h .cache .used x j in
+            ap (λ (n : ℕ). serves n z) (sym (used-same E s m h x (u .0) (u .1))) ∙ w .cache x (subst (λ (f : Figures). Mem x (f .cached)) (sym (h .figs)) j);
+        lists = λ x n i. w .lists x n (subst (λ cs. In (slot x n) (frees 0 cs)) c i);
+      }
+
   -- 3, exactly
   pub three-exactly : ThreeExactly op most places
   three-exactly s size = (
     λ e. let a = allowed s size (λ z. (let u : _≡_ {A = ℕ} 3 1 = sym e ∙ z in omega arith)) (λ z. (let u : _≡_ {A = ℕ} 3 2 = sym e ∙ z in omega arith)) in
         let k = sound-by s size a (λ z. (let u : _≡_ {A = ℕ} 3 5 = sym e ∙ z in omega arith)) in
-        (a, (k .0, k .1, noFit-exact E s (k .0) (k .1) size (a .0) (a .1) .0 e)),
-    λ w. noFit-exact E s (w .1 .0) (w .1 .1) size (w .0 .0) (w .0 .1) .1 (w .1 .2),
+        (a, unfit-told s (k .0) (k .1) (roundedOf size) (noFit-exact E s (k .0) (k .1) size (a .0) (a .1) .0 e)),
+    λ w. let k = w .1 .sound in
+        noFit-exact E s (k .0) (k .1) size (w .0 .0) (w .0 .1) .1 (unfit-shown s (k .0) (k .1) (roundedOf size) (w .1)),
   )
 
   -- served, or no fit
@@ -91,7 +116,8 @@ module _ {S : Type 0} {op : Ops S Figures} {most places : ℕ} (E : Edition op m
   either-way s m h size a =
       rw (hand-follows E s m h size .number)
       (handM-cases m size (λ o. (o .number ≡ 0) ⊎ (o .number ≡ 3)) (λ z. absurd (let q = a .0 in omega arith)) (λ z. absurd (let q = a .1 in omega arith))
-      (λ p q. serveM-cases m (roundedOf size) (λ o. (o .number ≡ 0) ⊎ (o .number ≡ 3)) (λ x ks r. inl refl) (λ r x c e. inl refl) (λ r c e. inr refl)))
+      (λ p q. serveM-cases m (roundedOf size) (λ o. (o .number ≡ 0) ⊎ (o .number ≡ 3)) (λ x ks r. inl refl) (λ r x c e. inl refl)
+      (λ r c e x d g. inl refl) (λ r c e d g. inr refl)))
 
   -- 0, exactly
   pub served-exactly : ServedExactly op most places
@@ -177,7 +203,7 @@ module _ {S : Type 0} {op : Ops S Figures} {most places : ℕ} (E : Edition op m
           high = ap (λ (f : Figures). f .high) e;
           flag = ap (λ (f : Figures). f .flag) e;
         },
-        λ c. subst (λ (g : Figures). CountedUp (op .rest s) g l (v - 4 + l)) (sym (w .1 c)) (flag-up (op .rest s) l (v - 4 + l)),
+        λ c. up (w .1 c),
       )
     where
       v : ℕ
@@ -185,6 +211,18 @@ module _ {S : Type 0} {op : Ops S Figures} {most places : ℕ} (E : Edition op m
 
       l : ℕ
       l = liveAt op most places (hand op most places s size .after) v
+
+      t : Figures
+      t = op .rest (hand op most places s size .after)
+
+      -- from the figures as they were, or with the cache emptied
+      from : (f : Figures) → t ≡ counted f l (v - 4 + l) → CountedUp f t l (v - 4 + l)
+      from f e = subst (λ (g : Figures). CountedUp f g l (v - 4 + l)) (sym e) (flag-up f l (v - 4 + l))
+
+      up : (t ≡ counted (op .rest s) l (v - 4 + l)) ⊎ (t ≡ counted (withoutCacheF (op .rest s)) l (v - 4 + l))
+          → CountedUp (op .rest s) t l (v - 4 + l) ⊎ CountedUp (withoutCacheF (op .rest s)) t l (v - 4 + l)
+      up (inl e) = inl (from (op .rest s) e)
+      up (inr e) = inr (from (withoutCacheF (op .rest s)) e)
 
   -- the figures after taking back
   pub taken-figured : TakenFigures op most places

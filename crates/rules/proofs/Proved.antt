@@ -24,6 +24,7 @@ use Rattle.rules.proofs.Editions.{edition, narrow-fits, wide-fits, made
 use Rattle.rules.proofs.Demands.{hand-numbers, back-numbers, hand-refused, back-refused, hand-returned, back-returned, hand-zero, hand-large, hand-sound}
 use Rattle.rules.proofs.Demands.{back-sound, hand-fine, back-fine, hand-damaged, back-damaged, noFit-exact, notLive-exact, position, compared-small}
 use Rattle.rules.proofs.Demands.{compared-small-refused, compared-large-refused}
+use Rattle.rules.proofs.FreeRuns.{noFit-by-runs}
 use Rattle.rules.proofs.Runs.{runs-agree, run-follows, payload-kept}
 use Rattle.rules.proofs.Bounds.{figures-fit}
 use Rattle.rules.proofs.Arrival.{arrives-empty, alike-at-handout}
@@ -74,6 +75,7 @@ demands {op = op} {most = most} {places = places} E = record {
   large = hand-large op most places;
   damaged = damaged E;
   noFit = λ s m h size a. noFit-exact E s m h size (a .0) (a .1);
+  byRuns = λ s m h size a. noFit-by-runs E s m h size (a .0) (a .1);
   notLive = λ s m h p. notLive-exact E s m h p;
   position = position E;
   compared = λ s m h size. (compared-small E s m h size, compared-small-refused E s m h size, compared-large-refused E s m h size);
@@ -106,8 +108,11 @@ module _ {W : Width} (E : Lawful W) (most places : ℕ) (f : most + 6 ≤ W .lim
   unfolding make
   making ws = go (acceptedᵇ most (length ws)) refl
     where
-      go : (t : Bool) → acceptedᵇ most (length ws) ≡ t → Made ws (pick t (says 0 0 0 (oneChunk (ops W) (fresh ws) (4 * (length ws - 1)))) (says 6 0 0 (empty ws)))
-      go true e = ((λ q. accepted-true most (length ws) e, λ a. refl), λ q. made-shows E most places f ws (accepted-true most (length ws) e), λ q. absurd (q refl))
+      go : (t : Bool) → acceptedᵇ most (length ws) ≡ t
+          → Made ws (pick t (says 0 0 0 (oneChunk (ops W) (fresh ws) (4 * (length ws - 1)))) (says 6 0 0 (empty ws)))
+      go true e =
+          let a = accepted-true most (length ws) e in
+          ((λ q. a, λ b. refl), λ q. made-shows E most places f ws a, λ q. absurd (q refl))
       go false e = (
         (λ q. absurd (let u : _≡_ {A = ℕ} 6 0 = q in omega arith), λ a. absurd (no (sym e ∙ true-accepted most (length ws) a))),
         λ q. absurd (let u : _≡_ {A = ℕ} 6 0 = q in omega arith),

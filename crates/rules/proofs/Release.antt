@@ -177,12 +177,15 @@ module _ {S R : Type 0} {op : Ops S R} (L : LinkStore op) (cls : ℕ → ℕ) (c
           let q′ = q in let h = h8 in let k : bit (lastUsed true pre) ≡ 1 = ap bit lu in
           rw (ne-eqb (op .word s (b / 4) % 2) 0 (omega arith)) (sym e)
       go (open′ p f e) =
-          let q′ = q in let h = h8 in let k : bit (lastUsed true pre) ≡ 0 = ap (λ (t : List Chunk). bit (lastUsed true t)) e ∙ ap bit (lastUsed-snoc true p f) in
+          let q′ = q in let h = h8 in
+          let k : bit (lastUsed true pre) ≡ 0 = ap (λ (t : List Chunk). bit (lastUsed true t)) e ∙ ap bit (lastUsed-snoc true p f) in
           let y : b ≡ 0 + total p + f = ap (λ (t : List Chunk). 0 + total t) e ∙ ap (λ (v : ℕ). 0 + v) (total-append p (free f ∷ [])) ∙ omega arith in
-          rw (eq-eqb (op .word s (b / 4) % 2) 0 (omega arith)) (ap (λ (v : ℕ). op .word s (v / 4 - 1)) y ∙ foot p f e ∙ sym (ap (freeLast 0) e ∙ freeLast-snoc 0 p f))
+          rw (eq-eqb (op .word s (b / 4) % 2) 0 (omega arith))
+          (ap (λ (v : ℕ). op .word s (v / 4 - 1)) y ∙ foot p f e ∙ sym (ap (freeLast 0) e ∙ freeLast-snoc 0 p f))
 
   -- RELEASE REFINES, as the code does it: the state's step shows the layout's release, whatever the link width
-  pub release-refines : (O : ℕ → List ℕ) (pre : List Chunk) (n : ℕ) (post : List Chunk) → Calm (pre ++ busy n ∷ post) → Whole L cls cls6 s O (pre ++ busy n ∷ post)
+  pub release-refines : (O : ℕ → List ℕ) (pre : List Chunk) (n : ℕ) (post : List Chunk) → Calm (pre ++ busy n ∷ post)
+      → Whole L cls cls6 s O (pre ++ busy n ∷ post)
       → Whole L cls cls6 (releaseStep op cls s (0 + total pre) n) (mergedOrders cls O (0 + total pre - freeLast 0 pre) (freeLast 0 pre) n (freeHead post))
       (release (pre ++ busy n ∷ post) (length pre))
   unfolding releaseStep

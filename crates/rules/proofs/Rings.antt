@@ -1,4 +1,4 @@
--- The class lists over any link store: what linking at the head, unlinking and making do to them, and to the words beside them.
+-- The class lists over any link store: what linking at the head, unlinking and making do to them, and to the other words.
 -- Assumes nothing.
 use mathlib.Core.Path.{_≡_, refl, sym, _∙_, subst}
 use mathlib.Core.Logic.{_≢_}

@@ -35,19 +35,19 @@ use Rattle.rules.proofs.TwoRun.{Laws, two-runs, run-abs, run-answers}
 use Rattle.words.specs.Links.{Width}
 use Rattle.words.proofs.Laws.Links.{Lawful}
 use Rattle.rules.specs.State.{ops}
-use Rattle.rules.specs.Rules.{Figures, says, byteOf, nameOf, Chosen, none, one, choose, withCached, released, fromList, fromCache, serve, handOut}
-use Rattle.rules.specs.Rules.{settled, takeBack}
-use Rattle.rules.specs.Machine.{Model, Request, ask, give, Answer, answerOf, callM, sizeM, searched, searchM, liveM, gaveM, settledM, takeBackM, madeM, stepsM, repliesM}
+use Rattle.rules.specs.Rules.{Figures, says, byteOf, nameOf, Chosen, none, one, choose, withCached, released, letGo, withoutCache, fromMerged, fromList}
+use Rattle.rules.specs.Rules.{fromCache, serve, handOut, settled, takeBack}
+use Rattle.rules.specs.Machine.{Model, Request, ask, give, Answer, answerOf, callM, sizeM, searched, searchM, withoutCacheM, liveM, gaveM, settledM, takeBackM, madeM, stepsM, repliesM}
 use Rattle.rules.specs.Sound.{Accepted, Shows}
 use Rattle.rules.proofs.Store.{Edition}
-use Rattle.rules.proofs.Follow.{Follows, shown, whole, L, search-same, met-free, used-size, live-same, snoc-used, r16, r8}
+use Rattle.rules.proofs.Follow.{Follows, shown, whole, L, without-cache-shows, search-same, met-free, used-size, live-same, snoc-used, r16, r8}
 use Rattle.rules.proofs.Follow.{Picked, choose-picked, choose-cached, portion-least, portion-le}
 use Rattle.rules.proofs.Bounds.{cached-fits}
 use Rattle.rules.proofs.Decide.{true-sound, layout-unique}
 use Rattle.rules.specs.Test.{soundᵇ}
 use Rattle.rules.specs.Demands.{LiveWord, hand, back}
 use Rattle.rules.proofs.Demands.{hand-follows, back-follows}
-use Rattle.rules.proofs.LetGo.{gave-keeps}
+use Rattle.rules.proofs.LetGo.{gave-keeps, without-cache-keeps}
 use Rattle.rules.specs.Making.{fresh}
 use Rattle.rules.proofs.Editions.{edition, made-shows}
 use Rattle.rules.specs.Runs.{Live, Same, acts, call, machine}
@@ -104,12 +104,14 @@ module _ {S : Type 0} {op : Ops S Figures} {most places : ℕ} (E : Edition op m
   -- TWO RUNS
   pub runs-agree : (es fs : List (Event Request)) (s t : S) (m : Model) → requests es ≡ requests fs → Sh s m → Sh t m → Allowed (acts op most places) es s
       → Allowed (acts op most places) fs t
-      → (answers (acts op most places) es s ≡ answers (acts op most places) fs t) × Same op most places (run (acts op most places) es s) (run (acts op most places) fs t)
+      → (answers (acts op most places) es s ≡ answers (acts op most places) fs t)
+      × Same op most places (run (acts op most places) es s) (run (acts op most places) fs t)
   unfolding laws
   runs-agree = two-runs laws
 
   pub run-follows : (es : List (Event Request)) (s : S) (m : Model) → Sh s m → Allowed (acts op most places) es s
-      → (answers (acts op most places) es s ≡ replies (machine places) (requests es) m) × Sh (run (acts op most places) es s) (steps (machine places) (requests es) m)
+      → (answers (acts op most places) es s ≡ replies (machine places) (requests es) m)
+      × Sh (run (acts op most places) es s) (steps (machine places) (requests es) m)
   unfolding laws
   run-follows es s m h a = (run-answers laws es s m h a, run-abs laws es s m h a)
 
@@ -133,7 +135,8 @@ module _ {S : Type 0} {op : Ops S Figures} {most places : ℕ} (E : Edition op m
       let k = portion-least 16 (lengthAt op s x) z (omega arith) z16 in
       let j = portion-le (lengthAt op s x) z in
       emptied-out (L E s m h) (op .setRest (takeChunk op s (x - 6) (lengthAt op s x) z) r) (x - 6) (portion (lengthAt op s x) z) i (omega arith)
-      (past-emptied ((0 + total pre) / 4) ((0 + total pre + n) / 4) i (x - 6) (portion (lengthAt op s x) z) (omega arith) (omega arith) (payload-out pre n post i p))
+      (past-emptied ((0 + total pre) / 4) ((0 + total pre + n) / 4) i (x - 6) (portion (lengthAt op s x) z) (omega arith) (omega arith)
+      (payload-out pre n post i p))
       ∙ L E s m h .word-setRest (takeChunk op s (x - 6) (lengthAt op s x) z) r i
       ∙ rw (take-words op s (x - 6) (lengthAt op s x) z (omega arith), size-at (L E s m h) classOf class-below s O pre n post x e w, byte-at pre x lp e)
       (take-keeps (L E s m h) classOf class-below pre post (calm-left pre n post (h .calm)) s O n z i z16 z8 w
@@ -160,26 +163,44 @@ module _ {S : Type 0} {op : Ops S Figures} {most places : ℕ} (E : Edition op m
         (λ e. l .2 .2 (subst (λ (t : ℕ). Mem t (m .figs .cached)) (let d : total (u .pre) ≡ total (l .2 .1 .pre) = e in
         let r : x ≡ nameOf (l .0 - 4) = omega arith in r) q)))
 
+    -- what is taken from a list
+    found-keeps : (z x c : ℕ) → 16 ≤ z → z % 8 ≡ 0 → Mem x (searched m z) → LiveWord m i → op .word (fromList op s z (at x c) .after) i ≡ op .word s i
+    unfolding fromList
+    found-keeps z x c z16 z8 q l =
+        let r = met-free E s m h z x q in
+        let g = free-at 0 (m .cs) (slot x (r .0)) (r .1) in
+        took-keeps s (g .pre) (r .0) (g .post) (m .orders) (m .figs) x z i _ z16 z8 (g .named)
+        (subst (λ cs. Sh s (record { cs = cs; orders = m .orders; figs = m .figs })) (g .is) h) (subst (λ cs. Payload cs i) (g .is) (payload m i l))
+
+  module _ (s : S) (m : Model) (h : Sh s m) (i : ℕ) where
     hand-keeps : (size : ℕ) → LiveWord m i → op .word (hand op most places s size .after) i ≡ op .word s i
-    unfolding handOut serve fromCache fromList
+    unfolding handOut serve fromCache fromList fromMerged
     hand-keeps size l = rw (true-sound E s (m, h)) (go (eqb size 0) (ltb 4294967284 size))
       where
+        again : (c : ℕ) (r : Found) → Fits (sizeM (withoutCacheM m)) (roundedOf size) (searched (withoutCacheM m) (roundedOf size)) r
+            → op .word (fromMerged op s (roundedOf size) c r .after) i ≡ op .word s i
+        again c (nowhere d) f = refl
+        again c lost f = refl
+        again c (at x d) f =
+            let k = without-cache-keeps E s m i h l in
+            found-keeps (withoutCache op s) (withoutCacheM m) (without-cache-shows E s m h) i (roundedOf size) x (c + d) (r16 size) (r8 size) (f .0) (k .0)
+            ∙ k .1
+
         list : (r : Found) → Fits (sizeM m) (roundedOf size) (searched m (roundedOf size)) r
             → op .word (fromList op s (roundedOf size) r .after) i ≡ op .word s i
-        list (nowhere c) f = refl
+        list (nowhere c) f =
+            let n = withoutCacheM m in
+            rw (search-same E (withoutCache op s) n (without-cache-shows E s m h) (roundedOf size))
+            (again c (searchM n (roundedOf size)) (find-fits (sizeM n) (roundedOf size) (searched n (roundedOf size)) 0))
         list lost f = refl
-        list (at x c) f =
-            let r = met-free E s m h (roundedOf size) x (f .0) in
-            let g = free-at 0 (m .cs) (slot x (r .0)) (r .1) in
-            took-keeps s (g .pre) (r .0) (g .post) (m .orders) (m .figs) x (roundedOf size) i _ (r16 size) (r8 size) (g .named)
-            (subst (λ cs. Sh s (record { cs = cs; orders = m .orders; figs = m .figs })) (g .is) h) (subst (λ cs. Payload cs i) (g .is) (payload m i l))
+        list (at x c) f = found-keeps s m h i (roundedOf size) x c (r16 size) (r8 size) (f .0) l
 
         served : (c : Chosen) → Picked (sizeM m) (roundedOf size) (m .figs .cached) c → op .word (fromCache op s (roundedOf size) c .after) i ≡ op .word s i
         served (one x ks) p =
             let c = cached-fits E s m h x (subst (λ (f : Figures). Mem x (f .cached)) (sym (h .figs)) (p .1)) in
             let n16 = c .least in
             let g : Figures = withCached (op .rest s) (op .rest s .inUse + lengthAt op s x) ks in
-            emptied-out (L E s m h) (op .setRest s g) (x - 6) (lengthAt op s x) i (omega arith) (cached-out l x (p .1))
+            emptied-out (L E s m h) (op .setRest s g) (x - 6) (lengthAt op s x) i (omega arith) (cached-out s m h i l x (p .1))
             ∙ L E s m h .word-setRest s g i
         served none p =
             rw (search-same E s m h (roundedOf size))
@@ -194,15 +215,16 @@ module _ {S : Type 0} {op : Ops S Figures} {most places : ℕ} (E : Edition op m
             rw (choose-cached E s m h (roundedOf size))
             (served (choose (sizeM m) (roundedOf size) (m .figs .cached)) (choose-picked (sizeM m) (roundedOf size) (m .figs .cached)))
 
-    settled-keeps : (v : ℕ) (ks : List ℕ) → ((x : ℕ) → Mem x ks → (6 ≤ x) × (0 < usedAt (m .cs) (byteOf x))) → Payload (m .cs) i → Payload (settledM places m v ks .cs) i
+    settled-keeps : (v : ℕ) (ks : List ℕ) → ((x : ℕ) → Mem x ks → (6 ≤ x) × (0 < usedAt (m .cs) (byteOf x))) → Payload (m .cs) i
+        → Payload (settledM places m v ks .cs) i
         → op .word (settled op places s v ks) i ≡ op .word s i
     unfolding settled
     settled-keeps v [] us p p′ = refl
     settled-keeps v (k ∷ ks) us p p′ = go (leb (length (k ∷ ks)) places) p′
       where
-        go : (t : Bool) → Payload ((pick t (record { cs = m .cs; orders = m .orders; figs = withCached (m .figs) v (k ∷ ks) }) (gaveM m v ks (byteOf k) (sizeM m k))) .cs) i
-            → op .word (pick t (op .setRest s (withCached (op .rest s) v (k ∷ ks)))
-            (op .setRest (releaseChunk op s (k - 6) (lengthAt op s k)) (released (op .rest s) v ks (lengthAt op s k)))) i ≡ op .word s i
+        go : (t : Bool)
+            → Payload ((pick t (record { cs = m .cs; orders = m .orders; figs = withCached (m .figs) v (k ∷ ks) }) (gaveM m v ks (byteOf k) (sizeM m k))) .cs) i
+            → op .word (pick t (op .setRest s (withCached (op .rest s) v (k ∷ ks))) (letGo op s v k ks)) i ≡ op .word s i
         go true y = L E s m h .word-setRest s (withCached (op .rest s) v (k ∷ ks)) i
         go false y = let u = us k (List·Memᴰ·head refl) in gave-keeps E s m h i k v ks (released (op .rest s) v ks (lengthAt op s k)) (u .0) (u .1) p y
 
@@ -211,7 +233,8 @@ module _ {S : Type 0} {op : Ops S Figures} {most places : ℕ} (E : Edition op m
     back-keeps p a b = rw (true-sound E s (m, h), live-same E s m h p, h .figs) (go (eqb (liveM m p) 0) refl b)
       where
         go : (t : Bool) → eqb (liveM m p) 0 ≡ t
-            → Payload ((pick t (says 4 0 0 m) (says 0 0 0 (settledM places m (m .figs .inUse - liveM m p) (m .figs .cached ++ nameOf (p - 4) ∷ [])))) .after .cs) i
+            → Payload ((pick t (says 4 0 0 m) (says 0 0 0
+            (settledM places m (m .figs .inUse - liveM m p) (m .figs .cached ++ nameOf (p - 4) ∷ [])))) .after .cs) i
             → op .word ((pick t (says 4 0 0 s) (says 0 0 0
             (settled op places s (m .figs .inUse - liveM m p) (m .figs .cached ++ nameOf (p - 4) ∷ [])))) .after) i ≡ op .word s i
         go true e y = refl

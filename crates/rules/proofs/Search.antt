@@ -28,14 +28,15 @@ find-walk nx pv size z k [] a zero c off h g = rw (eq-eqb (nx a) k (g .0)) refl
 find-walk nx pv size z k [] a (suc fuel) c off h g = rw (eq-eqb (nx a) k (g .0)) refl
 find-walk nx pv size z k (x ∷ xs) a zero c off h g = absurd (omega arith)
 find-walk nx pv size z k (x ∷ xs) a (suc fuel) c off h g =
-    rw (g .0) (rw (ne-eqb x k (λ q. off (List·Memᴰ·head (sym q))))
-    (ap (λ (r : Found). pick (leb z (size x)) (at x (suc c)) r) (find-walk nx pv size z k xs x fuel (suc c) (λ m. off (List·Memᴰ·tail m)) (le-of-suc-le-suc h) (g .2))))
+    let rest = find-walk nx pv size z k xs x fuel (suc c) (λ m. off (List·Memᴰ·tail m)) (le-of-suc-le-suc h) (g .2) in
+    rw (g .0) (rw (ne-eqb x k (λ q. off (List·Memᴰ·head (sym q)))) (ap (λ (r : Found). pick (leb z (size x)) (at x (suc c)) r) rest))
 
 pub find-same : (size size′ : ℕ → ℕ) (z : ℕ) (xs : List ℕ) (c : ℕ) → ((x : ℕ) → Mem x xs → size x ≡ size′ x) → find size z xs c ≡ find size′ z xs c
 unfolding find
 find-same size size′ z [] c h = refl
 find-same size size′ z (x ∷ xs) c h =
-    rw (h x (List·Memᴰ·head refl)) (ap (λ (r : Found). pick (leb z (size′ x)) (at x (suc c)) r) (find-same size size′ z xs (suc c) (λ y m. h y (List·Memᴰ·tail m))))
+    let rest = find-same size size′ z xs (suc c) (λ y m. h y (List·Memᴰ·tail m)) in
+    rw (h x (List·Memᴰ·head refl)) (ap (λ (r : Found). pick (leb z (size′ x)) (at x (suc c)) r) rest)
 
 pub find-append : (size : ℕ → ℕ) (z : ℕ) (xs ys : List ℕ) (c : ℕ) → find size z (xs ++ ys) c ≡ orElse (find size z xs c) (λ d. find size z ys d)
 unfolding find
@@ -126,7 +127,8 @@ distinct-append (x ∷ xs) ys d e h = (λ m. go (List·Memᴰ·append-cases xs m
     go (inl i) = d .0 i
     go (inr i) = h x (List·Memᴰ·head refl) i
 
-pub turn-distinct : (O : ℕ → List ℕ) (n k : ℕ) → ((j : ℕ) → j < k + n → Distinct (O j)) → ((i j x : ℕ) → i < k + n → j < k + n → Mem x (O i) → Mem x (O j) → i ≡ j)
+pub turn-distinct : (O : ℕ → List ℕ) (n k : ℕ) → ((j : ℕ) → j < k + n → Distinct (O j))
+    → ((i j x : ℕ) → i < k + n → j < k + n → Mem x (O i) → Mem x (O j) → i ≡ j)
     → Distinct (inTurn O n k)
 unfolding inTurn
 turn-distinct O zero k d h = tt
@@ -182,5 +184,6 @@ no-more (x ∷ xs) ys d h =
     let a = around x ys (h x (List·Memᴰ·head refl)) in
     let l : length ys ≡ suc (length (a .front ++ a .back)) = ap length (a .is) ∙ length-middle (a .front) x (a .back) in
     let r = no-more xs (a .front ++ a .back) (d .1)
-    (λ y m. mem-but y (a .front) x (a .back) (subst (λ (t : List ℕ). Mem y t) (a .is) (h y (List·Memᴰ·tail m))) (λ e. d .0 (subst (λ (u : ℕ). Mem u xs) e m))) in
+    (λ y m. mem-but y (a .front) x (a .back) (subst (λ (t : List ℕ). Mem y t) (a .is) (h y (List·Memᴰ·tail m)))
+    (λ e. d .0 (subst (λ (u : ℕ). Mem u xs) e m))) in
     omega arith

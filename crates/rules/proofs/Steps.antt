@@ -36,17 +36,19 @@ module _ {S R : Type 0} {op : Ops S R} (L : LinkStore op) where
     whole-part s n p =
         let h16 : 16 ≤ n = n16 in
         let hb : b + n ≤ L .bytes = all in
-        retag L cls cls6 pre post O s (op .setWord s1 ((b + n) / 4) (leftUsed (op .word s1 ((b + n) / 4)))) (free n ∷ []) (busy n ∷ []) n (omega arith) (omega arith)
-        (ln .0, ln .1, tt) p
+        retag L cls cls6 pre post O s (op .setWord s1 ((b + n) / 4) (leftUsed (op .word s1 ((b + n) / 4))))
+        (free n ∷ []) (busy n ∷ []) n (omega arith) (omega arith) (ln .0, ln .1, tt) p
         (write-rings L cls cls6 pre post O s1 n ((b + n) / 4) _ lp lq (p .exact) (omega arith) (omega arith)
         (write-rings L cls cls6 pre post O s n (b / 4) _ lp lq (p .exact) (omega arith) (omega arith) (p .rings)))
         (λ i h. L .word-setWord′ s1 _ _ i (omega arith) ∙ L .word-setWord′ s _ _ i (omega arith))
         (λ i h. L .word-setWord′ s1 _ _ i (omega arith) ∙ L .word-setWord′ s _ _ i (omega arith))
         (let q = tags-head (op .word s) (b + n) false post (t .2) in let ev = headTag-even post lq in
-        let r1 : op .word s1 ((b + n) / 4) ≡ op .word s ((b + n) / 4) = L .word-setWord′ s _ _ ((b + n) / 4) (omega arith) in L .word-setWord s1 _ _ g1
-        (L .inw ((b + n) / 4) (omega arith)) ∙ omega arith) (
+        let r1 : op .word s1 ((b + n) / 4) ≡ op .word s ((b + n) / 4) = L .word-setWord′ s _ _ ((b + n) / 4) (omega arith) in
+        L .word-setWord s1 _ _ g1 (L .inw ((b + n) / 4) (omega arith)) ∙ omega arith) (
           let k : bit l ≡ 1 = ap bit last in
-              let h8 : n % 8 ≡ 0 = ln .1 in L .word-setWord′ s1 _ _ (b / 4) (omega arith) ∙ L .word-setWord s _ _ (p .rings .good) (L .inw (b / 4) (omega arith))
+              let h8 : n % 8 ≡ 0 = ln .1 in
+              L .word-setWord′ s1 _ _ (b / 4) (omega arith)
+              ∙ L .word-setWord s _ _ (p .rings .good) (L .inw (b / 4) (omega arith))
               ∙ omega arith,
           λ e. absurd (let z : _≡_ {A = ℕ} 0 1 = cc in omega arith),
           tt,
@@ -89,7 +91,9 @@ module _ {S R : Type 0} {op : Ops S R} (L : LinkStore op) where
         (write-rings L cls cls6 pre post O s n (b / 4) _ lp lq (p .exact) (omega arith) (omega arith) (p .rings))))
         (λ i h. L .word-setWord′ s2 _ _ i (omega arith) ∙ L .word-setWord′ s1 _ _ i (omega arith) ∙ L .word-setWord′ s _ _ i (omega arith))
         (λ i h. L .word-setWord′ s2 _ _ i (omega arith) ∙ L .word-setWord′ s1 _ _ i (omega arith) ∙ L .word-setWord′ s _ _ i (omega arith))
-        (L .word-setWord′ s2 _ _ ((b + n) / 4) (omega arith) ∙ L .word-setWord′ s1 _ _ ((b + n) / 4) (omega arith) ∙ L .word-setWord′ s _ _ ((b + n) / 4) (omega arith)
+        (L .word-setWord′ s2 _ _ ((b + n) / 4) (omega arith)
+        ∙ L .word-setWord′ s1 _ _ ((b + n) / 4) (omega arith)
+        ∙ L .word-setWord′ s _ _ ((b + n) / 4) (omega arith)
         ∙ tags-head (op .word s) (b + n) false post (t .2)) (
           let k : bit l ≡ 1 = ap bit last in
               L .word-setWord′ s2 _ _ (b / 4) (omega arith) ∙ L .word-setWord′ s1 _ _ (b / 4) (omega arith) ∙ L .word-setWord s _ _ (p .rings .good)
@@ -97,7 +101,8 @@ module _ {S R : Type 0} {op : Ops S R} (L : LinkStore op) where
           λ e. absurd (let z : _≡_ {A = ℕ} 0 1 = cc in omega arith),
           (
             L .word-setWord′ s2 _ _ ((b + z) / 4) (omega arith) ∙ L .word-setWord s1 _ _ g1 (L .inw ((b + z) / 4) (omega arith)) ∙ omega arith,
-            λ e. ap (λ (i : ℕ). op .word (op .setWord s2 ((b + n) / 4 - 1) (n - z)) i) (same) ∙ L .word-setWord s2 _ _ g2 (L .inw ((b + n) / 4 - 1) (omega arith)),
+            λ e. ap (λ (i : ℕ). op .word (op .setWord s2 ((b + n) / 4 - 1) (n - z)) i) same
+                ∙ L .word-setWord s2 _ _ g2 (L .inw ((b + n) / 4 - 1) (omega arith)),
             tt,
           ),
         )
@@ -132,20 +137,22 @@ module _ {S R : Type 0} {op : Ops S R} (L : LinkStore op) where
         same : (b + z + (n - z)) / 4 - 1 ≡ (b + n) / 4 - 1
         same = ap (λ (i : ℕ). i / 4 - 1) (omega arith)
 
-    pub free-part : (s : S) (mid : List Chunk) (m : ℕ) → total mid ≡ m → 16 ≤ m → m % 8 ≡ 0 → Part L cls s O (pre ++ (mid ++ post)) (outside L cls cls6 pre post O m)
+    pub free-part : (s : S) (mid : List Chunk) (m : ℕ) → total mid ≡ m → 16 ≤ m → m % 8 ≡ 0
+        → Part L cls s O (pre ++ (mid ++ post)) (outside L cls cls6 pre post O m)
         → Part L cls (oneFree op s b m) O (pre ++ free m ∷ post) (outside L cls cls6 pre post O m)
     unfolding oneFree
     free-part s mid m em m16 m8 p =
         let hb : b + m ≤ L .bytes = all in
-        retag L cls cls6 pre post O s (op .setWord s2 ((b + m) / 4) (leftFreed (op .word s2 ((b + m) / 4)))) mid (free m ∷ []) m em (omega arith) (m16, m8, tt) p
+        retag L cls cls6 pre post O s (op .setWord s2 ((b + m) / 4) (leftFreed (op .word s2 ((b + m) / 4))))
+        mid (free m ∷ []) m em (omega arith) (m16, m8, tt) p
         (write-rings L cls cls6 pre post O s2 m ((b + m) / 4) _ lp lq (p .exact) (omega arith) (omega arith)
         (write-rings L cls cls6 pre post O s1 m ((b + m) / 4 - 1) _ lp lq (p .exact) (omega arith) (omega arith)
         (write-rings L cls cls6 pre post O s m (b / 4) _ lp lq (p .exact) (omega arith) (omega arith) (p .rings))))
         (λ i h. L .word-setWord′ s2 _ _ i (omega arith) ∙ L .word-setWord′ s1 _ _ i (omega arith) ∙ L .word-setWord′ s _ _ i (omega arith))
         (λ i h. L .word-setWord′ s2 _ _ i (omega arith) ∙ L .word-setWord′ s1 _ _ i (omega arith) ∙ L .word-setWord′ s _ _ i (omega arith))
         (let q = tags-head (op .word s) (b + m) (lastUsed l mid) post tq in let e = headTag-even post lq in let k = bit-small (lastUsed l mid) in
-        let r2 : op .word s2 ((b + m) / 4) ≡ op .word s ((b + m) / 4) = L .word-setWord′ s1 _ _ ((b + m) / 4) (omega arith) ∙ L .word-setWord′ s _ _ ((b + m) / 4)
-        (omega arith) in
+        let r2 : op .word s2 ((b + m) / 4) ≡ op .word s ((b + m) / 4) =
+        L .word-setWord′ s1 _ _ ((b + m) / 4) (omega arith) ∙ L .word-setWord′ s _ _ ((b + m) / 4) (omega arith) in
         L .word-setWord s2 _ _ g2 (L .inw ((b + m) / 4) (omega arith)) ∙ omega arith) (
           let k : bit l ≡ 1 = ap bit last in
               L .word-setWord′ s2 _ _ (b / 4) (omega arith) ∙ L .word-setWord′ s1 _ _ (b / 4) (omega arith) ∙ L .word-setWord s _ _ (p .rings .good)

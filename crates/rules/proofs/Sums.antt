@@ -23,7 +23,8 @@ join-used-sum c (d ∷ cs) = go (c .used) (d .used) refl refl
     go false false p q = rw (p, q) (omega arith)
 
 -- a release takes its chunk's length off
-pub release-sum : (cs : List Chunk) (i : ℕ) → i < length cs → (getD cs i (busy 0)) .used ≡ true → usedSum (release cs i) + (getD cs i (busy 0)) .len ≡ usedSum cs
+pub release-sum : (cs : List Chunk) (i : ℕ) → i < length cs → (getD cs i (busy 0)) .used ≡ true
+    → usedSum (release cs i) + (getD cs i (busy 0)) .len ≡ usedSum cs
 unfolding release
 release-sum [] i h u = absurd (not-suc-le-zero h)
 release-sum (c ∷ cs) zero h u =

@@ -85,7 +85,8 @@ tags-frame f f′ b l (c ∷ cs) h t = (
   tags-frame f f′ (b + c .len) (c .used) cs (λ i u. h i (inr (inr u))) (t .2),
 )
 
-pub front-below : (f f′ : ℕ → ℕ) (b : ℕ) (l : Bool) (pre : List Chunk) → Legal pre → ((i : ℕ) → i < (b + total pre) / 4 → f′ i ≡ f i) → Front f b l pre → Front f′ b l pre
+pub front-below : (f f′ : ℕ → ℕ) (b : ℕ) (l : Bool) (pre : List Chunk) → Legal pre
+    → ((i : ℕ) → i < (b + total pre) / 4 → f′ i ≡ f i) → Front f b l pre → Front f′ b l pre
 front-below f f′ b l [] g h t = tt
 front-below f f′ b l (c ∷ pre) g h t =
     let a = g .0 in (

@@ -32,7 +32,8 @@ module _ {S M Q A : Type 0} {R : Acts S Q A} {K : Machine M Q A} (T : Laws R K) 
   -- TWO RUNS
   pub two-runs : (es fs : List (Event Q)) (s t : S) (m : M) → requests es ≡ requests fs → T .Abs s m → T .Abs t m → Allowed R es s → Allowed R fs t
       → (answers R es s ≡ answers R fs t) × T .Same (run R es s) (run R fs t)
-  two-runs es fs s t m e a b w x = (
-    run-answers es s m a w ∙ ap (λ (qs : List Q). replies K qs m) e ∙ sym (run-answers fs t m b x),
-    T .same (run R es s) (run R fs t) (steps K (requests fs) m) (subst (λ (qs : List Q). T .Abs (run R es s) (steps K qs m)) e (run-abs es s m a w)) (run-abs fs t m b x),
-  )
+  two-runs es fs s t m e a b w x =
+      let shown = subst (λ (qs : List Q). T .Abs (run R es s) (steps K qs m)) e (run-abs es s m a w) in (
+        run-answers es s m a w ∙ ap (λ (qs : List Q). replies K qs m) e ∙ sym (run-answers fs t m b x),
+        T .same (run R es s) (run R fs t) (steps K (requests fs) m) shown (run-abs fs t m b x),
+      )

@@ -1,21 +1,22 @@
 -- THE DEMANDS, as statements about the rules; proofs/Proved.antt proves each, for both link widths and any number of cache places.
 use mathlib.Core.Path.{_≡_}
-use mathlib.Core.Logic.{_≢_}
+use mathlib.Core.Logic.{_≢_, _⊎_}
 use mathlib.Core.Bool.{true}
 use mathlib.Core.List.{List, [], _∷_}
-use Prim.Native.Nat.{ℕ, _≤_, _<_}
+use Prim.Native.Nat.{ℕ, _+_, _≤_, _<_}
 use lib.ListN.{length}
 use Rattle.words.specs.Links.{Width}
-use Rattle.words.specs.Sizes.{roundedOf}
+use Rattle.words.specs.Sizes.{roundedOf, thresholdOf}
 use Rattle.rules.specs.Lists.{Mem}
 use Rattle.rules.specs.Ops.{Ops}
 use Rattle.rules.specs.State.{ops}
 use Rattle.rules.specs.Rules.{Figures, Outcome}
 use Rattle.rules.specs.Making.{make, empty}
-use Rattle.rules.specs.Machine.{Model, Request, ask, give, madeM}
+use Rattle.rules.specs.Machine.{Model, Request, ask, give, withoutCacheM, madeM}
 use Rattle.rules.specs.Sound.{Accepted, Shows, Sound}
 use Rattle.rules.specs.Test.{soundᵇ}
-use Rattle.rules.specs.Demands.{NoFit, FromCache, FromList, LiveAt, Holds, hand, back}
+use Rattle.rules.specs.FreeRuns.{longestRun}
+use Rattle.rules.specs.Demands.{NoneServes, NoFit, FromCache, FromList, FromMerged, LiveAt, Holds, hand, back}
 use Rattle.rules.specs.TwoRuns.{Event, requests, run, answers, Allowed, replies}
 use Rattle.rules.specs.Runs.{machine, acts, call, Live, Same}
 
@@ -94,24 +95,31 @@ module _ {S : Type 0} (op : Ops S Figures) (most places : ℕ) where
   NoFitExactly =
       (s : S) (m : Model) → Shows op most places s m → (size : ℕ) → Allowable (ask size) → Iff (asked s size .number ≡ 3) (NoFit m (roundedOf size))
 
+  -- and as it is seen in the layout: no cached chunk serves, and the longest run of touching free or cached chunks does not reach the threshold
+  abbrev pub NoFitByRuns : Type 0
+  NoFitByRuns =
+      (s : S) (m : Model) → Shows op most places s m → (size : ℕ) → Allowable (ask size)
+      → Iff (asked s size .number ≡ 3) (NoneServes m (roundedOf size) × (longestRun (m .figs .cached) 0 0 (m .cs) < thresholdOf (roundedOf size)))
+
   -- 4 exactly where no live payload begins
   abbrev pub NotLiveExactly : Type 0
   NotLiveExactly = (s : S) (m : Model) → Shows op most places s m → (p : ℕ) → Iff (given s p .number ≡ 4) ((n : ℕ) → LiveAt m p n → ⊥)
 
-  -- and the compared count: a place in the rules' search; at most 1 below 512; for no fit the whole class 5 list from 512 on, else 0
+  -- and the compared count: a place in the rules' search, or in the one after the cache was emptied
   abbrev pub Position : Type 0
   Position =
       (s : S) (m : Model) → Shows op most places s m → (size : ℕ) → asked s size .number ≡ 0
       → (asked s size .compared ≡ 0 → FromCache m (roundedOf size) (asked s size .value))
-      × (0 < asked s size .compared → FromList m (roundedOf size) (asked s size .value) (asked s size .compared))
+      × (0 < asked s size .compared → FromList m (roundedOf size) (asked s size .value) (asked s size .compared)
+      ⊎ FromMerged m (roundedOf size) (asked s size .value) (asked s size .compared))
 
-  -- how many at most, and how many where nothing fits
+  -- at most 1 below 512; where nothing fits none, and from 512 on the whole class 5 list, and that of the state with its cache emptied
   abbrev pub Compared : Type 0
   Compared =
       (s : S) (m : Model) → Shows op most places s m → (size : ℕ)
       → (roundedOf size < 512 → asked s size .compared ≤ 1)
       × (roundedOf size < 512 → asked s size .number ≡ 3 → asked s size .compared ≡ 0)
-      × (512 ≤ roundedOf size → asked s size .number ≡ 3 → asked s size .compared ≡ length (m .orders 5))
+      × (512 ≤ roundedOf size → asked s size .number ≡ 3 → asked s size .compared ≡ length (m .orders 5) + length (withoutCacheM m .orders 5))
 
   -- DEMAND 3: two heaps that show one model answer alike, and as the rules without memory, whatever else their words hold and the tasks write
   abbrev pub TwoRunsAgree : Type 0
@@ -155,6 +163,7 @@ module _ {S : Type 0} (op : Ops S Figures) (most places : ℕ) where
     pub large : LargeExactly
     pub damaged : DamagedExactly
     pub noFit : NoFitExactly
+    pub byRuns : NoFitByRuns
     pub notLive : NotLiveExactly
     pub position : Position
     pub compared : Compared

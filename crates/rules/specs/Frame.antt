@@ -1,18 +1,19 @@
--- WHICH WORDS A CALL WRITES: only words of the chunks that it takes, cuts, releases or merges, the header right of them, and link words of free chunks.
+-- WHICH WORDS A CALL WRITES: only words of the chunks that it takes, cuts, releases or merges, the headers right of them, and link words of free chunks.
 -- And what tasks keep in live payloads stays. proofs/Frame.antt proves the claims, for both link widths and any number of cache places; making's is in
 -- specs/Promises.antt.
 use mathlib.Core.Path.{_≡_}
 use mathlib.Core.Logic.{_≢_, _⊎_}
 use mathlib.Core.List.{List, [], _∷_, _++_}
 use Prim.Native.Nat.{ℕ, _+_, _-_, _*_, _/_, _≤_, _<_}
+use Rattle.words.specs.Sizes.{roundedOf}
 use Rattle.rules.specs.Ops.{Ops}
 use Rattle.rules.specs.Chunks.{Chunk, busy, total}
 use Rattle.rules.specs.Exact.{slot, In, frees}
 use Rattle.rules.specs.Orders.{freeHead, freeLast}
 use Rattle.rules.specs.Rules.{Figures, byteOf, nameOf}
-use Rattle.rules.specs.Machine.{Model, sizeM}
+use Rattle.rules.specs.Machine.{Model, sizeM, withoutCacheM}
 use Rattle.rules.specs.Sound.{Shows}
-use Rattle.rules.specs.Demands.{Holds}
+use Rattle.rules.specs.Demands.{FromMerged, Holds}
 use Rattle.rules.specs.Claims.{asked, given}
 use Rattle.rules.specs.Lives.{liveAt}
 
@@ -24,14 +25,20 @@ NoLink m i = (x n : ℕ) → In (slot x n) (frees 0 (m .cs)) → (i ≢ x - 5) �
 abbrev pub Outside : ℕ → ℕ → ℕ → Type 0
 Outside a b i = (i < a) ⊎ (b < i)
 
+-- word i lies in no free chunk, and is not the header right of one
+abbrev pub Clear : Model → ℕ → Type 0
+Clear m i = (x n : ℕ) → In (slot x n) (frees 0 (m .cs)) → Outside (x - 6) (x - 6 + n / 4) i
+
 module _ {S : Type 0} (op : Ops S Figures) (most places : ℕ) where
-  -- HANDING OUT at payload v writes words of the chunk there, as long as it was before it was cut, the header right of it, and links
+  -- HANDING OUT at payload v writes words of the chunk there, as long as it was before it was cut, the header right of it, and links; where the cache was
+  -- emptied for it, words of the free chunks of the layout without the cache, and headers right of them
   abbrev pub HandFrame : Type 0
   HandFrame =
       (s : S) (m : Model) (size i : ℕ) → Shows op most places s m
-      → let b = asked op most places s size .value - 4 in
-      NoLink m i → Outside (b / 4) ((b + sizeM m (nameOf b)) / 4) i
-      → op .word (asked op most places s size .after) i ≡ op .word s i
+      → let o = asked op most places s size in
+      let b = o .value - 4 in
+      NoLink m i → Outside (b / 4) ((b + sizeM m (nameOf b)) / 4) i → (FromMerged m (roundedOf size) (o .value) (o .compared) → Clear (withoutCacheM m) i)
+      → op .word (o .after) i ≡ op .word s i
 
   -- TAKING BACK writes, of k, the oldest of the cached chunks and this one: its words and those of its free neighbours, the header right of them, and links
   abbrev pub BackFrame : Type 0

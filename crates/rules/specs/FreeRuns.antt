@@ -13,6 +13,13 @@ use Rattle.rules.specs.Machine.{Model}
 abbrev pub ended : ℕ → ℕ → List Slot → List Slot
 ended e a F = pick (eqb a 0) F (slot (nameOf e) a ∷ F)
 
+-- THE LONGEST RUN where ks are cached: of the chunks cs from byte b on, behind a run of a bytes
+unfoldable pub longestRun : List ℕ → ℕ → ℕ → List Chunk → ℕ
+longestRun ks b a [] = a
+longestRun ks b a (c ∷ cs) =
+    let on = longestRun ks (b + c .len) (a + c .len) cs in
+    pick (pick (c .used) (listed (nameOf b) ks) true) on (max a (longestRun ks (b + c .len) 0 cs))
+
 -- the runs, each by the link of its first chunk and by its length, where ks are cached: those of the chunks cs, behind a run of a bytes from byte e on
 unfoldable pub runsFrom : List ℕ → ℕ → ℕ → List Chunk → List Slot
 runsFrom ks e a [] = ended e a []
@@ -29,6 +36,11 @@ freeRuns m = runsFrom (m .figs .cached) 0 0 (m .cs)
 abbrev pub greatest : List Slot → ℕ
 greatest [] = 0
 greatest (t ∷ F) = max (t .len) (greatest F)
+
+-- THE LONGEST free chunk; 0 where none is free
+abbrev pub longest : List Chunk → ℕ
+longest [] = 0
+longest (c ∷ cs) = max (pick (c .used) 0 (c .len)) (longest cs)
 
 -- the n bytes from byte b on lie inside one of F
 abbrev pub Inside : List Slot → ℕ → ℕ → Type 0

@@ -44,10 +44,36 @@ searched m z = inTurn (m .orders) (6 - startOf z) (startOf z)
 abbrev pub searchM : Model → ℕ → Found
 searchM m z = find (sizeM m) z (searched m z) 0
 
--- from a list; or no fit
+-- the chunk of n bytes at byte b released, ks cached, tasks holding i bytes
+unfoldable pub gaveM : Model → ℕ → List ℕ → ℕ → ℕ → Model
+gaveM m i ks b n =
+    let j = indexAt (m .cs) b in
+    let f = freeLast 0 (take j (m .cs)) in
+    record {
+      cs = release (m .cs) j;
+      orders = mergedOrders classOf (m .orders) (b - f) f n (freeHead (drop (suc j) (m .cs)));
+      figs = released (m .figs) i ks n;
+    }
+
+-- EMPTYING THE CACHE: its chunks, oldest first, released one after the other; what tasks hold stays
+unfoldable pub emptyCacheM : Model → List ℕ → Model
+emptyCacheM m [] = m
+emptyCacheM m (k ∷ ks) = emptyCacheM (gaveM m (m .figs .inUse) ks (byteOf k) (sizeM m k)) ks
+
+-- all of them
+abbrev pub withoutCacheM : Model → Model
+withoutCacheM m = emptyCacheM m (m .figs .cached)
+
+-- nothing found, c compared: from a list once the cache is emptied; or no fit
+abbrev pub fromMergedM : Model → ℕ → ℕ → Found → Outcome Model
+fromMergedM m z c (at x d) = says 0 (byteOf x + 4) (c + d) (tookM (withoutCacheM m) x (sizeM (withoutCacheM m) x) z)
+fromMergedM m z c (nowhere d) = says 3 0 (c + d) m
+fromMergedM m z c lost = says 5 0 0 m
+
+-- from a list; else once more
 abbrev pub fromListM : Model → ℕ → Found → Outcome Model
 fromListM m z (at x c) = says 0 (byteOf x + 4) c (tookM m x (sizeM m x) z)
-fromListM m z (nowhere c) = says 3 0 c m
+fromListM m z (nowhere c) = fromMergedM m z c (searchM (withoutCacheM m) z)
 fromListM m z lost = says 5 0 0 m
 
 -- from the cache; else from a list
@@ -65,22 +91,12 @@ handOutM m size =
 unfoldable pub liveM : Model → ℕ → ℕ
 liveM m p = pick (leb 4 p) (pick (listed (nameOf (p - 4)) (m .figs .cached)) 0 (usedAt (m .cs) (p - 4))) 0
 
--- the chunk of n bytes at byte b released, ks cached, tasks holding i bytes
-unfoldable pub gaveM : Model → ℕ → List ℕ → ℕ → ℕ → Model
-gaveM m i ks b n =
-    let j = indexAt (m .cs) b in
-    let f = freeLast 0 (take j (m .cs)) in
-    record {
-      cs = release (m .cs) j;
-      orders = mergedOrders classOf (m .orders) (b - f) f n (freeHead (drop (suc j) (m .cs)));
-      figs = released (m .figs) i ks n;
-    }
-
 -- the chunks ks cached and tasks holding i bytes; where the chunks are too many, the oldest is released
 abbrev pub settledM : ℕ → Model → ℕ → List ℕ → Model
 settledM places m i [] = m
 settledM places m i (k ∷ ks) =
-    pick (leb (length (k ∷ ks)) places) (record { cs = m .cs; orders = m .orders; figs = withCached (m .figs) i (k ∷ ks) }) (gaveM m i ks (byteOf k) (sizeM m k))
+    let more : Model = record { cs = m .cs; orders = m .orders; figs = withCached (m .figs) i (k ∷ ks) } in
+    pick (leb (length (k ∷ ks)) places) more (gaveM m i ks (byteOf k) (sizeM m k))
 
 -- payload offset p given back
 unfoldable pub takeBackM : ℕ → Model → ℕ → Outcome Model

@@ -25,7 +25,7 @@ selves = 0 ∷ 1 ∷ 2 ∷ 3 ∷ 4 ∷ 5 ∷ []
 abbrev pub begun : ℕ → Figures
 begun n = record { words = n; cached = []; inUse = 0; committed = 0; peak = 0; high = 0; flag = 0 }
 
--- the empty record beside the words ws; and one with empty lists
+-- the empty record over the words ws; and one with empty lists
 abbrev pub empty : List ℕ → State
 empty ws = record { prevs = zeros; nexts = zeros; words = ws; rest = begun 0 }
 

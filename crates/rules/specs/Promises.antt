@@ -1,18 +1,21 @@
 -- THE DEMANDS, FURTHER STATEMENTS about the rules; proofs/Promises.antt proves each, for both link widths and any number of cache places: one step and a run
 -- as the machine without memory makes them, each answer exactly when with no premise, the figures after each call, and which words making writes.
 use mathlib.Core.Path.{_≡_}
-use mathlib.Core.Logic.{_≢_}
+use mathlib.Core.Logic.{_≢_, _⊎_}
+use mathlib.Core.Bool.{false}
 use mathlib.Core.List.{List}
 use Prim.Native.Nat.{ℕ, _+_, _-_, _≤_, _<_, max}
 use lib.ListN.{length, getD}
-use Rattle.words.specs.Sizes.{roundedOf}
+use Rattle.words.specs.Sizes.{roundedOf, thresholdOf}
 use Rattle.words.specs.Links.{Width, prev, next}
+use Rattle.rules.specs.Lists.{Mem}
 use Rattle.rules.specs.Ops.{Ops}
-use Rattle.rules.specs.Rules.{Figures}
+use Rattle.rules.specs.Exact.{slot, In, frees}
+use Rattle.rules.specs.Steps.{lengthAt}
+use Rattle.rules.specs.Rules.{Figures, serves, withoutCache, withoutCacheF}
 use Rattle.rules.specs.Making.{make}
 use Rattle.rules.specs.Machine.{Model, Request, ask, answerOf, callM}
 use Rattle.rules.specs.Sound.{Accepted, Shows, Sound}
-use Rattle.rules.specs.Demands.{NoFit}
 use Rattle.rules.specs.TwoRuns.{Event, requests, steps, run, Allowed}
 use Rattle.rules.specs.Runs.{machine, acts, call}
 use Rattle.rules.specs.Claims.{Iff, Allowable, asked, given}
@@ -53,9 +56,13 @@ module _ {S : Type 0} (op : Ops S Figures) (most places : ℕ) where
       → Shows op most places (run (acts op most places) es s) (steps (machine places) (requests es) m)
 
   -- EXACTLY WHEN, whatever the state
-  -- nothing fits z bytes: the state shows a model where no cached chunk serves and no free one reaches the threshold
-  abbrev pub Unfit : S → ℕ → Type 0
-  Unfit s z = (m : Model) × Shows op most places s m × NoFit m z
+  -- NOTHING FITS z bytes: the state is sound, no cached chunk serves, and no free chunk of the layout with the cache emptied reaches the threshold
+  pub record Unfit (s : S) (z : ℕ) : Type 0 where
+    pub sound : Sound op most places s
+    pub cache : (x : ℕ) → Mem x (op .rest s .cached) → serves (lengthAt op s x) z ≡ false
+    pub merged : Model
+    pub shows : Shows op most places (withoutCache op s) merged
+    pub lists : (x n : ℕ) → In (slot x n) (frees 0 (merged .cs)) → n < thresholdOf z
 
   -- a handout is done exactly for an allowable size, on a sound state, where something fits
   abbrev pub ServedExactly : Type 0
@@ -63,7 +70,7 @@ module _ {S : Type 0} (op : Ops S Figures) (most places : ℕ) where
       (s : S) (size : ℕ)
       → Iff (asked op most places s size .number ≡ 0) (Allowable (ask size) × Sound op most places s × (Unfit s (roundedOf size) → ⊥))
 
-  -- 3 exactly for an allowable size, on a sound state, where nothing fits (what shows a model is sound)
+  -- 3 exactly for an allowable size, on a sound state, where nothing fits
   abbrev pub ThreeExactly : Type 0
   ThreeExactly = (s : S) (size : ℕ) → Iff (asked op most places s size .number ≡ 3) (Allowable (ask size) × Unfit s (roundedOf size))
 
@@ -83,15 +90,16 @@ module _ {S : Type 0} (op : Ops S Figures) (most places : ℕ) where
   abbrev pub FewCompared : Type 0
   FewCompared = (s : S) (size : ℕ) → roundedOf size < 512 → asked op most places s size .compared ≤ 1
 
-  -- THE FIGURES after each call. A handout from the cache compared nothing, one from a list something; l is the length handed out, and its payload at v
-  -- begins 4 bytes after the chunk
+  -- THE FIGURES after each call. A handout from the cache compared nothing, one from a list something, be it that the cache was emptied before; l is the
+  -- length handed out, and its payload at v begins 4 bytes after the chunk
   abbrev pub HandedFigures : Type 0
   HandedFigures =
       (s : S) (size : ℕ) → asked op most places s size .number ≡ 0
       → let o = asked op most places s size in
       let l = liveAt op most places (o .after) (o .value) in
       (o .compared ≡ 0 → HeldOnly (op .rest s) (op .rest (o .after)) (op .rest s .inUse + l))
-      × (0 < o .compared → CountedUp (op .rest s) (op .rest (o .after)) l (o .value - 4 + l))
+      × (0 < o .compared → CountedUp (op .rest s) (op .rest (o .after)) l (o .value - 4 + l)
+      ⊎ CountedUp (withoutCacheF (op .rest s)) (op .rest (o .after)) l (o .value - 4 + l))
 
   -- taking back: what tasks hold falls by the length given back; peak, high water and flag stay
   abbrev pub TakenFigures : Type 0

@@ -87,18 +87,45 @@ counted r m e =
 abbrev pub released : Figures → ℕ → List ℕ → ℕ → Figures
 released r i ks n = record { words = r .words; cached = ks; inUse = i; committed = r .committed - n; peak = r .peak; high = r .high; flag = r .flag }
 
+-- with the cache emptied: committed is what tasks hold; that, the marks and the flag stay
+abbrev pub withoutCacheF : Figures → Figures
+withoutCacheF r = record { words = r .words; cached = []; inUse = r .inUse; committed = r .inUse; peak = r .peak; high = r .high; flag = r .flag }
+
 module _ {S : Type 0} (op : Ops S Figures) where
+  -- the cached chunk k released, ks staying cached and tasks holding i bytes
+  abbrev pub letGo : S → ℕ → ℕ → List ℕ → S
+  letGo s i k ks = let n = lengthAt op s k in op .setRest (releaseChunk op s (k - 6) n) (released (op .rest s) i ks n)
+
+  -- EMPTYING THE CACHE: its chunks, oldest first, released one after the other; what tasks hold stays
+  unfoldable pub emptyCache : S → List ℕ → S
+  emptyCache s [] = s
+  emptyCache s (k ∷ ks) = emptyCache (letGo s (op .rest s .inUse) k ks) ks
+
+  -- all of them
+  abbrev pub withoutCache : S → S
+  withoutCache s = emptyCache s (op .rest s .cached)
+
   -- HANDING OUT: 2. the lists from the start class upwards, each from its sentinel's next, and the first chunk in them that has z bytes
   unfoldable pub firstFit : S → ℕ → Found
   firstFit s z = find (lengthAt op s) z (inTurn (λ k. walk (op .next s) k (op .count s) (op .next s k)) (6 - startOf z) (startOf z)) 0
 
-  -- 3 and 4. the chunk found is unlinked, cut and marked used; the figures follow; its payload, as finally cut, is set to 0. Or no fit
-  unfoldable pub fromList : S → ℕ → Found → Outcome S
-  fromList s z (at x c) =
+  -- 3 and 4. the chunk x, found with c compared, is unlinked, cut and marked used; the figures follow; its payload, as finally cut, is set to 0
+  abbrev pub took : S → ℕ → ℕ → ℕ → Outcome S
+  took s z x c =
       let n = lengthAt op s x in
       let out = op .setRest (takeChunk op s (x - 6) n z) (counted (op .rest s) (portion n z) (byteOf x + portion n z)) in
       says 0 (byteOf x + 4) c (emptied op out (x - 6) (portion n z))
-  fromList s z (nowhere c) = says 3 0 c s
+
+  -- nothing found, c compared: the lists of the state with its cache emptied are searched. Nothing again: no fit, and all is as it was
+  unfoldable pub fromMerged : S → ℕ → ℕ → Found → Outcome S
+  fromMerged s z c (at x d) = took (withoutCache s) z x (c + d)
+  fromMerged s z c (nowhere d) = says 3 0 (c + d) s
+  fromMerged s z c lost = says 5 0 0 s
+
+  -- from a list; else once more
+  unfoldable pub fromList : S → ℕ → Found → Outcome S
+  fromList s z (at x c) = took s z x c
+  fromList s z (nowhere c) = fromMerged s z c (firstFit (withoutCache s) z)
   fromList s z lost = says 5 0 0 s
 
   -- 1. a cached chunk that serves is handed out whole, its payload set to 0; in use grows by its length, the other counters stay
@@ -123,10 +150,7 @@ module _ {S : Type 0} (op : Ops S Figures) where
   -- the chunks ks cached and tasks holding i bytes; where the chunks are too many, the oldest is released
   unfoldable pub settled : ℕ → S → ℕ → List ℕ → S
   settled places s i [] = s
-  settled places s i (k ∷ ks) =
-      let n = lengthAt op s k in
-      let off = op .setRest (releaseChunk op s (k - 6) n) (released (op .rest s) i ks n) in
-      pick (leb (length (k ∷ ks)) places) (op .setRest s (withCached (op .rest s) i (k ∷ ks))) off
+  settled places s i (k ∷ ks) = pick (leb (length (k ∷ ks)) places) (op .setRest s (withCached (op .rest s) i (k ∷ ks))) (letGo s i k ks)
 
   -- payload offset p given back: 5, then 4, else the chunk is cached, and in use falls by its length
   unfoldable pub takeBack : ℕ → (S → Bool) → S → ℕ → Outcome S

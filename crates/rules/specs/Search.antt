@@ -4,7 +4,7 @@ use Prim.Native.Nat.{ℕ, zero, suc}
 use lib.Dec.{eqb, leb}
 use Rattle.words.specs.Choice.{pick}
 
--- a chunk, by its link, and how many were compared with it; or none among so many; or more than a heap of this length can list
+-- a chunk, by its link, and how many were compared with it; or none, and how many were compared; or more than a heap of this length can list
 pub data Found : Type 0 where
   at : ℕ → ℕ → Found
   nowhere : ℕ → Found

@@ -15,7 +15,7 @@ use Rattle.rules.specs.Search.{find, inTurn}
 use Rattle.rules.specs.Place.{usedAt, tile}
 use Rattle.rules.specs.Lists.{walk}
 use Rattle.rules.specs.Exact.{frees}
-use Rattle.rules.specs.Rules.{Outcome, choose, listed, firstFit, fromList, fromCache, serve, handOut, live, settled, takeBack}
+use Rattle.rules.specs.Rules.{Outcome, choose, listed, emptyCache, firstFit, fromMerged, fromList, fromCache, serve, handOut, live, settled, takeBack}
 use Rattle.rules.specs.Making.{State, make}
 use Rattle.rules.specs.Machine.{Request, ask, give}
 use Rattle.rules.specs.Test.{legalᵇ, calmᵇ, tagsᵇ, segᵇ, belowᵇ, everyᵇ, slotᵇ, exactᵇ, distinctᵇ, underᵇ, cacheᵇ, figuresᵇ, showsᵇ, candidate, soundᵇ}
@@ -71,6 +71,11 @@ table =
     ∷ rounds 4294967284 4294967288 ∷ last 33 (ask 4294967284 ∷ []) 3 0 0 ∷ last 33 (ask 4294967285 ∷ []) 2 0 0
     -- cached 536 serves s = 24; cached 544 doesn't
     ∷ last 333 (ask 532 ∷ give 4 ∷ ask 13 ∷ []) 0 4 0 ∷ last 333 (ask 540 ∷ give 4 ∷ ask 13 ∷ []) 0 548 1
+    -- 9 words, ask 12, free it, ask 20: served once the cache is emptied; 28 would not be: 32 bytes do not reach 64
+    ∷ last 9 (ask 12 ∷ give 4 ∷ ask 20 ∷ []) 0 4 1 ∷ last 9 (ask 12 ∷ give 4 ∷ ask 28 ∷ []) 3 0 0
+    -- no fit counts both searches, with nothing cached too; and all is as it was: the cached chunk still serves
+    ∷ last 131 (ask 541 ∷ []) 3 0 2 ∷ last 139 (ask 12 ∷ ask 4 ∷ give 4 ∷ ask 541 ∷ []) 3 0 2
+    ∷ last 139 (ask 12 ∷ ask 4 ∷ give 4 ∷ ask 541 ∷ ask 12 ∷ []) 0 4 0
     ∷ []
 
 -- where one place and four differ: two chunks given back, and a request that both serve; first with one place
@@ -89,13 +94,16 @@ bursts =
     -- a fifth one lets the oldest go: its header says free, and the second is the oldest then
     ∷ word 25 (ask 12 ∷ ask 12 ∷ ask 12 ∷ ask 12 ∷ ask 12 ∷ give 4 ∷ give 20 ∷ give 36 ∷ give 52 ∷ give 68 ∷ []) 0 17
     ∷ last 25 (ask 12 ∷ ask 12 ∷ ask 12 ∷ ask 12 ∷ ask 12 ∷ give 4 ∷ give 20 ∷ give 36 ∷ give 52 ∷ give 68 ∷ ask 12 ∷ []) 0 20 0
+    -- three are let go before no, the oldest first: word 8 is the header that the third then had
+    ∷ last 17 (ask 12 ∷ ask 12 ∷ ask 12 ∷ give 4 ∷ give 20 ∷ give 36 ∷ ask 20 ∷ []) 0 4 1
+    ∷ word 17 (ask 12 ∷ ask 12 ∷ ask 12 ∷ give 4 ∷ give 20 ∷ give 36 ∷ ask 20 ∷ []) 8 18
     -- each cached chunk is cold
     ∷ last 13 (ask 12 ∷ ask 12 ∷ give 4 ∷ give 20 ∷ give 4 ∷ []) 4 0 0 ∷ last 13 (ask 12 ∷ ask 12 ∷ give 4 ∷ give 20 ∷ give 20 ∷ []) 4 0 0
     ∷ []
 
 -- THE ONE CLAIM: document 01's entries with one place and with four, and where the two differ
 pub claim : (all one table ≡ true) × (all four table ≡ true) × (all one newest ≡ true) × (all four bursts ≡ true)
-unfolding call handOut takeBack live choose listed make serve fromCache fromList firstFit settled link unlink setLeft clearLeft markFree markUsed oneChunk
-    returnExcess takeChunk cleared emptied leftFree rightFree merge merged releaseChunk setLinkAt classOf find inTurn usedAt soundᵇ showsᵇ candidate
-    legalᵇ calmᵇ tagsᵇ segᵇ belowᵇ everyᵇ slotᵇ exactᵇ distinctᵇ underᵇ cacheᵇ figuresᵇ tile walk frees
+unfolding call handOut takeBack live choose listed make serve fromCache fromList fromMerged emptyCache firstFit settled link unlink setLeft clearLeft markFree
+    markUsed oneChunk returnExcess takeChunk cleared emptied leftFree rightFree merge merged releaseChunk setLinkAt classOf find inTurn usedAt soundᵇ showsᵇ
+    candidate legalᵇ calmᵇ tagsᵇ segᵇ belowᵇ everyᵇ slotᵇ exactᵇ distinctᵇ underᵇ cacheᵇ figuresᵇ tile walk frees
 claim = (refl, refl, refl, refl)

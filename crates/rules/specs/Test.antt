@@ -76,8 +76,8 @@ cacheᵇ places ks cs = both (everyᵇ (λ x. both (leb 6 x) (leb 1 (usedAt cs (
 
 unfoldable pub figuresᵇ : Figures → ℕ → List Chunk → Bool
 figuresᵇ f b cs =
-    both (eqb (f .inUse) (liveSum (f .cached) 0 cs)) (both (eqb (f .committed) (usedSum cs)) (both (leb (f .committed) (f .peak)) (both (leb (f .peak) (f .high))
-    (both (leb (f .high) b) (both (eqb (f .high % 8) 0) (both (underᵇ (f .high) 0 cs) (leb (f .flag) 1)))))))
+    both (eqb (f .inUse) (liveSum (f .cached) 0 cs)) (both (eqb (f .committed) (usedSum cs)) (both (leb (f .committed) (f .peak))
+    (both (leb (f .peak) (f .high)) (both (leb (f .high) b) (both (eqb (f .high % 8) 0) (both (underᵇ (f .high) 0 cs) (leb (f .flag) 1)))))))
 
 module _ {S : Type 0} (op : Ops S Figures) (most places : ℕ) where
   -- the one candidate: the headers' chunks, the links' orders, the record's figures

@@ -10,7 +10,7 @@ use lib.ListN.{set}
 use Rattle.words.specs.Names.{links, heldName}
 use Rattle.words.specs.Tags.{at, headerOf, lengthOf, freeᵇ, leftFreeᵇ, rightOf, footerOf}
 use Rattle.rules.specs.Steps.{portion}
-use Rattle.steps.specs.Chunk.{freed, leftFreeIn, rightFreeIn, Releasable}
+use Rattle.steps.specs.Chunk.{freedIn, freed, leftFreeIn, rightFreeIn, Releasable}
 use Rattle.steps.specs.Merged.{mergedWith, mergedIn, plainBy}
 
 -- FREE NEIGHBOURS: the flag says whether there is one
@@ -34,9 +34,14 @@ right-some ws w v b e h ev = rw (sym e ∙ h) ev
 pub footer-place : (w n f : ℕ) → w < 2 ^ 32 → n < 2 ^ 32 → f ≡ rightOf w n % 2 ^ 64 - 1 → f ≡ footerOf w n
 footer-place w n f hw hn e = omega arith
 
-pub freed-by : (ws ws1 ws2 : List ℕ) (w n f : ℕ) → w < 2 ^ 32 → n < 2 ^ 32 → ws1 ≡ set ws w (headerOf n false true) → f ≡ rightOf w n % 2 ^ 64 - 1 → ws2 ≡ set ws1 f n → ws2 ≡ freed ws w n
-unfolding freed
-freed-by ws ws1 ws2 w n f hw hn e1 ef e2 = rw (e2, footer-place w n f hw hn ef, e1)
+pub freed-by : (ws ws1 ws2 : List ℕ) (w n f : ℕ) → ws1 ≡ set ws w (headerOf n false true) → f ≡ rightOf w n % 2 ^ 64 - 1 → ws2 ≡ set ws1 f n
+    → ws2 ≡ freedIn ws w n
+unfolding freedIn
+freed-by ws ws1 ws2 w n f e1 ef e2 = rw (e2, ef, e1)
+
+pub freed-plain : (ws : List ℕ) (w n : ℕ) → w < 2 ^ 32 → n < 2 ^ 32 → freedIn ws w n ≡ freed ws w n
+unfolding freedIn freed
+freed-plain ws w n hw hn = rw (footer-place w n _ hw hn refl)
 
 -- A CHUNK MERGED with its free neighbours: what the code reads; and plain sums where they are in range
 pub merging-by : (ws : List ℕ) (x n w e f g i t z l y : ℕ) → x < 65536 → n < 2 ^ 32

@@ -1,6 +1,7 @@
 -- LAWS OF NOTES (specs/Undone.antt): what is noted before it is overwritten can be put back, on any words. Assumes nothing.
---     undone-none, undone-turn            putting notes back: none left, and one more
---     note-past, note-one, notes-more     taking notes: past the end, one, and more after those
+--     undone-none, undone-turn            putting notes back: none left, and one more;  put-back-by, -all: as many as there are
+--     note-past, -full, -one, -named      taking notes: past the end, in a full log, one
+--     notes-more, notes-tags              more after those
 --     Changed, changes-none, ..-set       words that differ at some places at most, and the stores that keep to them
 --     undo-by                             THE LAW: a step that stores at the noted places alone is undone by the notes
 --     undo-none, undo-on, undo-whole      no step; a step after a step; all notes of a log put back
@@ -8,7 +9,7 @@
 use mathlib.Core.Path.{_≡_, refl, sym, ap, _∙_}
 use mathlib.Core.Bool.{Bool, true, false}
 use mathlib.Core.List.{List, [], _∷_, _++_, List·Memᴰ, List·Memᴰ·head, List·Memᴰ·tail, List·Memᴰ·not-nil, Memᴰ·cast}
-use Prim.Native.Nat.{ℕ, zero, suc, _+_, _-_, _*_, _%_, _^_, _≤_, _<_}
+use Prim.Native.Nat.{ℕ, zero, suc, _+_, _-_, _*_, _/_, _%_, _^_, _≤_, _<_, min}
 use native.Mathlib.Numerals.{add-one}
 use native.Mathlib.Omega.{arith}
 use lib.Dec.{eqb, ltb}
@@ -19,7 +20,7 @@ use Rattle.words.specs.Choice.{pick}
 use Rattle.words.specs.Tags.{at, headerOf, rightOf, footerOf, changed}
 use Rattle.words.specs.Links.{Width, Side, setLinkAt, setChunkLink}
 use Rattle.steps.specs.Chunk.{freed}
-use Rattle.steps.specs.Undone.{undone, restored, Room, Notes, Undoes, tagPlaces}
+use Rattle.steps.specs.Undone.{undone, putBack, restored, Room, Notes, Noting, Undoes, tagPlaces}
 use Rattle.steps.proofs.Neighbours.{footer-place}
 
 -- PUTTING BACK: no note is left, or one more
@@ -34,6 +35,17 @@ undone-turn log us zero j e = absurd (omega arith)
 undone-turn log us (suc k) j e =
     let o : k ≡ j = omega arith in
     rw o
+
+-- as many as the log has room for; all of them, where it has
+pub put-back-by : (log us vs : List ℕ) (k n : ℕ) → n ≡ min k (length log / 2) → undone log n us ≡ vs → vs ≡ putBack log k us
+unfolding putBack
+put-back-by log us vs k n e h = sym h ∙ ap (λ (j : ℕ). undone log j us) e
+
+pub put-back-all : (log us : List ℕ) (k : ℕ) → 2 * k ≤ length log → putBack log k us ≡ undone log k us
+unfolding putBack
+put-back-all log us k h =
+    let all : min k (length log / 2) ≡ k = omega arith in
+    rw all
 
 -- it reads no further than its notes
 undone-beyond : (log us : List ℕ) (k j v : ℕ) → 2 * k ≤ j → undone (set log j v) k us ≡ undone log k us
@@ -63,6 +75,9 @@ note-past ws log k i h = record {
   back = λ us e. ap (undone log k) (sym (set-out us i (at ws i) (omega arith)));
 }
 
+pub note-full : (ws ps log after : List ℕ) (k r : ℕ) → length log / 2 ≤ k → 0 < length ps → Noting ws ps log k after r
+note-full ws ps log after k r h p = λ room. let f = room .fits in absurd (omega arith)
+
 pub note-one : (ws log : List ℕ) (k i : ℕ) → 2 * k + 1 < length log → Notes ws (i ∷ []) log k (set (set log (2 * k) i) (2 * k + 1) (at ws i)) (k + 1)
 unfolding restored
 note-one ws log k i h =
@@ -74,6 +89,15 @@ note-one ws log k i h =
     let earlier : (us : List ℕ) → undone after k us ≡ undone log k us =
     λ us. undone-beyond mid us k (2 * k + 1) (at ws i) (omega arith) ∙ undone-beyond log us k (2 * k) i (omega arith) in
     record { most = omega arith; back = λ us e. undone-turn after us (k + 1) k refl ∙ rw (index, held) (earlier (set us i (at ws i))) }
+
+-- the index as a note keeps it is the index, of a word that is there
+pub note-named : (ws log : List ℕ) (k i : ℕ) → i < length ws
+    → Noting ws (i ∷ []) log k (set (set log (2 * k) (i % 4294967296)) (2 * k + 1) (at ws i)) (k + 1)
+note-named ws log k i h = λ room.
+    let n = room .named in
+    let f = room .fits in
+    let same : i % 4294967296 ≡ i = omega arith in
+    rw same (note-one ws log k i (omega arith))
 
 -- notes qs after the notes ps, no word written between: the later ones are put back first
 pub notes-more : (ws ps qs log mid after : List ℕ) (k r t : ℕ) → Notes ws ps log k mid r → Notes ws qs mid r after t → Notes ws (qs ++ ps) log k after t
@@ -90,10 +114,26 @@ notes-more ws ps qs log mid after k r t a b =
 pub note-at : (ws log after : List ℕ) (k r i j : ℕ) → Notes ws (i ∷ []) log k after r → i ≡ j → Notes ws (j ∷ []) log k after r
 note-at ws log after k r i j a e = rw e at a
 
-pub notes-tags : (ws log log1 log2 log3 : List ℕ) (k k1 k2 k3 w n f j : ℕ) → w < 2 ^ 32 → n < 2 ^ 32
-    → Notes ws (w ∷ []) log k log1 k1 → f ≡ rightOf w n % 2 ^ 64 - 1 → Notes ws (f ∷ []) log1 k1 log2 k2
-    → j ≡ rightOf w n % 2 ^ 64 → Notes ws (j ∷ []) log2 k2 log3 k3 → Notes ws (tagPlaces w n) log k log3 k3
-notes-tags ws log log1 log2 log3 k k1 k2 k3 w n f j hw hn header ef footer ej right =
+-- room for m notes is room for fewer
+pub room-within : (m n : ℕ) (ws log : List ℕ) (k : ℕ) → n ≤ m → Room ws log k m → Room ws log k n
+room-within m n ws log k l h = let f = h .fits in record { named = h .named; fits = omega arith }
+
+-- room for the next, after notes
+pub room-next : (m n : ℕ) (ws ps log mid : List ℕ) (k r : ℕ) → length ps ≡ m → Room ws log k (m + n) → length mid ≡ length log → Notes ws ps log k mid r
+    → Room ws mid r n
+room-next m n ws ps log mid k r e h l a =
+    let f = h .fits in
+    let p = a .most in
+    record { named = h .named; fits = omega arith }
+
+pub notes-tags : (ws log log1 log2 log3 : List ℕ) (k k1 k2 k3 w n f j : ℕ) → w < 2 ^ 32 → n < 2 ^ 32 → length log1 ≡ length log → length log2 ≡ length log1
+    → Noting ws (w ∷ []) log k log1 k1 → f ≡ rightOf w n % 2 ^ 64 - 1 → Noting ws (f ∷ []) log1 k1 log2 k2
+    → j ≡ rightOf w n % 2 ^ 64 → Noting ws (j ∷ []) log2 k2 log3 k3 → Noting ws (tagPlaces w n) log k log3 k3
+notes-tags ws log log1 log2 log3 k k1 k2 k3 w n f j hw hn l1 l2 one ef two′ ej three = λ room.
+    let header = one (room-within 3 1 ws log k (omega arith) room) in
+    let room1 = room-next 1 2 ws (w ∷ []) log log1 k k1 refl room l1 header in
+    let footer = two′ (room-within 2 1 ws log1 k1 (omega arith) room1) in
+    let right = three (room-next 1 1 ws (f ∷ []) log1 log2 k1 k2 refl room1 l2 footer) in
     let pf : f ≡ footerOf w n = footer-place w n f hw hn ef in
     let pj : j ≡ rightOf w n = omega arith in
     let two = notes-more ws (w ∷ []) (footerOf w n ∷ []) log log1 log2 k k1 k2 header (note-at ws log1 log2 k1 k2 f (footerOf w n) footer pf) in
@@ -149,10 +189,7 @@ undo-on m n ws us vs log mid after k r t a b =
 pub undo-within : (m n : ℕ) (ws us log after : List ℕ) (k r : ℕ) → m ≤ n → Undoes m ws log k us after r → Undoes n ws log k us after r
 undo-within m n ws us log after k r h a = let p = a .most in record { most = omega arith; back = a .back }
 
--- room for m notes is room for fewer; and after a step that took m, there is room for n
-pub room-within : (m n : ℕ) (ws log : List ℕ) (k : ℕ) → n ≤ m → Room ws log k m → Room ws log k n
-room-within m n ws log k l h = let f = h .fits in record { named = h .named; fits = omega arith }
-
+-- after a step that took m notes, there is room for n
 pub room-on : (m n : ℕ) (ws us log after : List ℕ) (k r : ℕ) → Room ws log k (m + n) → length us ≡ length ws → length after ≡ length log
     → Undoes m ws log k us after r → Room us after r n
 room-on m n ws us log after k r h e l u =

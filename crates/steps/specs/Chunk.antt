@@ -1,12 +1,15 @@
 -- The tags that releasing and taking write, and what emptying a payload does, on the words alone; and when the sums of a release stay in range.
 use mathlib.Core.Bool.{Bool, true, false}
 use mathlib.Core.List.{List}
-use Prim.Native.Nat.{ℕ, zero, suc, _+_, _-_, _/_, _≤_, _<_}
+use Prim.Native.Nat.{ℕ, zero, suc, _+_, _-_, _/_, _%_, _^_, _≤_, _<_}
 use lib.ListN.{set}
 use Rattle.words.specs.Choice.{pick}
 use Rattle.words.specs.Tags.{at, headerOf, lengthOf, freeᵇ, leftFreeᵇ, rightOf, footerOf}
 
--- header and footer of a free chunk of n bytes
+-- header and footer of a free chunk of n bytes: as machine words keep the footer's place, and with a plain sum
+unfoldable pub freedIn : List ℕ → ℕ → ℕ → List ℕ
+freedIn ws w n = set (set ws w (headerOf n false true)) (rightOf w n % 2 ^ 64 - 1) n
+
 unfoldable pub freed : List ℕ → ℕ → ℕ → List ℕ
 freed ws w n = set (set ws w (headerOf n false true)) (footerOf w n) n
 

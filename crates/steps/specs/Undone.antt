@@ -1,7 +1,7 @@
 -- NOTES AND UNDOING: a lent log holds notes, pairs of the index of a word and what the word held. Put back last first, they give the words as they were.
 use mathlib.Core.Path.{_≡_}
 use mathlib.Core.List.{List, [], _∷_}
-use Prim.Native.Nat.{ℕ, zero, suc, _+_, _*_, _^_, _≤_}
+use Prim.Native.Nat.{ℕ, zero, suc, _+_, _*_, _/_, _^_, _≤_, min}
 use lib.ListN.{length, getD, set}
 use Rattle.words.specs.Tags.{at, rightOf, footerOf}
 
@@ -9,6 +9,10 @@ use Rattle.words.specs.Tags.{at, rightOf, footerOf}
 unfoldable pub undone : List ℕ → ℕ → List ℕ → List ℕ
 undone log zero ws = ws
 undone log (suc k) ws = undone log k (set ws (getD log (2 * k) 0) (getD log (2 * k + 1) 0))
+
+-- as many of the first k notes as the log has, put back
+unfoldable pub putBack : List ℕ → ℕ → List ℕ → List ℕ
+putBack log k ws = undone log (min k (length log / 2)) ws
 
 -- room for n notes after the k that a log has, of words whose index fits a note
 pub record Room (ws log : List ℕ) (k n : ℕ) : Type 0 where
@@ -24,6 +28,10 @@ restored us ws (p ∷ ps) = restored (set us p (at ws p)) ws ps
 pub record Notes (ws ps log : List ℕ) (k : ℕ) (after : List ℕ) (r : ℕ) : Type 0 where
   pub most : r ≤ k + length ps
   pub back : (us : List ℕ) → length us ≡ length ws → undone after r us ≡ undone log k (restored us ws ps)
+
+-- the same, where there is room for them
+abbrev pub Noting : List ℕ → List ℕ → List ℕ → ℕ → List ℕ → ℕ → Type 0
+Noting ws ps log k after r = Room ws log k (length ps) → Notes ws ps log k after r
 
 -- A STEP from the words ws to us that took at most n notes, after k, r in all: undone, both are the same words
 pub record Undoes (n : ℕ) (ws log : List ℕ) (k : ℕ) (us after : List ℕ) (r : ℕ) : Type 0 where

@@ -1,13 +1,11 @@
 // A free chunk's tags, and which neighbours of a chunk are free.
 ghost use mathlib.Core.Path.{_≡_};
-ghost use Prim.Native.Nat.{_<_, _^_};
-ghost use Rattle.steps.specs.Chunk.{freed, leftFreeIn, rightFreeIn, caseOf};
+ghost use Rattle.steps.specs.Chunk.{freedIn, leftFreeIn, rightFreeIn, caseOf};
 use words::WordIndex;
 
 // Writes header and footer of a free chunk, its left neighbour used.
 pub fn set_free_chunk_hdr_ftr(heap: &mut [u32], hdr: WordIndex, size: u32)
-    requires { ⌜ hdr .0 < 2 ^ 32 ⌝ }
-    ensures { λ r. ⌜ now (heap .exit) ≡ freed (now (heap .entry)) (hdr .0) size ⌝ }
+    ensures { λ r. ⌜ now (heap .exit) ≡ freedIn (now (heap .entry)) (hdr .0) size ⌝ }
 {
     words::set_hdr(heap, hdr, size, false, true);
     let ftr = words::hdr_to_ftr(hdr, size);

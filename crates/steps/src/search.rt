@@ -1,6 +1,6 @@
 // First fit: the lists from the start class upwards, each from its sentinel's next.
 //
-// A heap of n words lists at most n / 4 chunks. A search that compares more is on lists that do not end; it says so and stops.
+// A heap of n words lists at most n / 4 chunks. A search that compares more is in lists that do not end; it says so and stops.
 ghost use mathlib.Core.Path.{_≡_};
 ghost use Prim.Native.Nat.{_-_, _/_, _≤_, _<_};
 ghost use lib.ListN.{length};
@@ -10,7 +10,7 @@ ghost use Rattle.words.specs.Sizes.{startOf};
 ghost use Rattle.steps.specs.Found.{told, walkIn};
 use words::Link;
 
-// A chunk and how many were compared with the size; none among so many; or lists that do not end.
+// What a search finds: a chunk, or none, with how many were compared; or that the lists do not end.
 pub enum Found {
     At(Link, usize),
     Nothing(usize),

@@ -71,8 +71,8 @@ pub below-as : (got : ℤ) → SFits w64 got → ltZ (toZ w64 (ofZ w64 got)) (po
 below-as got f = ap (λ (z : ℤ). ltZ z (pos 0)) (toZ-ofZ w64 got f)
 
 -- a piece fed whole
-pub takes-fed : {places : ℕ} (s : Stream) (f : Fed) (got : ℤ) (n : ℕ) (memory input out memory' out' : List ℕ) → n ≡ clamped got (length input) → n ≤ length input
-    → 0 < n → n ≤ s .left → 19 * length input ≤ length out → length out' ≡ length out
+pub takes-fed : {places : ℕ} (s : Stream) (f : Fed) (got : ℤ) (n : ℕ) (memory input out memory' out' : List ℕ)
+    → n ≡ clamped got (length input) → n ≤ length input → 0 < n → n ≤ s .left → 19 * length input ≤ length out → length out' ≡ length out
     → stands f memory' out' ≡ steps places (standing (s .trace) memory []) (take (f .taken) (take n input))
     → f .filled ≤ length out → (f .taken < length (take n input) → length out < f .filled + 19) → f .filled ≤ 19 * f .taken → f .taken ≤ length (take n input)
     → Takes places s (pieceOf (s .left) got input) memory
@@ -101,7 +101,8 @@ last-length os l n h k e = sym (length-take-le n os (omega arith)) ∙ ap length
 -- ---- a run
 
 -- before the first byte
-pub going-first : {places : ℕ} (a : Bool) (memory : List ℕ) (s : Stream) → s .trace .rec ≡ emptyRecord → textOf (s .trace .line) ≡ [] → s .left ≡ most → s .written ≡ 0
+pub going-first : {places : ℕ} (a : Bool) (memory : List ℕ) (s : Stream)
+    → s .trace .rec ≡ emptyRecord → textOf (s .trace .line) ≡ [] → s .left ≡ most → s .written ≡ 0
     → Going places a memory s memory
 unfolding cachedOf
 going-first a memory s r l n w =
@@ -109,7 +110,9 @@ going-first a memory s r l n w =
       ran = record {
         input = [];
         answers = [];
-        stands = ap (λ (x : Record). onLine (seen x memory) (textOf (s .trace .line)) []) r ∙ ap (λ (x : List ℕ). onLine (empty memory) x []) l ∙ steps-none _ _;
+        stands = ap (λ (x : Record). onLine (seen x memory) (textOf (s .trace .line)) []) r
+            ∙ ap (λ (x : List ℕ). onLine (empty memory) x []) l
+            ∙ steps-none _ _;
         counted = omega (arith, n);
       };
       written = λ _. w;
@@ -121,7 +124,8 @@ abbrev pub turnsLeft : Stream → ℕ
 turnsLeft s = s .left + pick (s .more) 1 0
 
 -- a piece more, whose answers were handed over, or are not wanted
-pub going-on : {places : ℕ} {a : Bool} {memory ms ns os : List ℕ} {s r : Stream} (w : Stream) (k : ℕ) → Going places a memory s ms → Next places s ms r ns os → w .trace ≡ r .trace
+pub going-on : {places : ℕ} {a : Bool} {memory ms ns os : List ℕ} {s r : Stream} (w : Stream) (k : ℕ)
+    → Going places a memory s ms → Next places s ms r ns os → w .trace ≡ r .trace
     → w .left ≡ r .left → w .written ≡ r .written + k → (a ≡ true → k ≡ r .filled) → k ≤ r .filled → Going places a memory w ns
 going-on {memory = memory} {ns = ns} {os = os} {r = r} w k g n t l e f h =
     let x = g .ran in
@@ -142,7 +146,8 @@ going-on {memory = memory} {ns = ns} {os = os} {r = r} w k g n t l e f h =
     }
 
 -- the turns get fewer
-pub turns-less : {places : ℕ} {ms ns os : List ℕ} {s r : Stream} (w : Stream) → Next places s ms r ns os → w .left ≡ r .left → s .more ≡ true → (w .more ≡ true → r .more ≡ true)
+pub turns-less : {places : ℕ} {ms ns os : List ℕ} {s r : Stream} (w : Stream)
+    → Next places s ms r ns os → w .left ≡ r .left → s .more ≡ true → (w .more ≡ true → r .more ≡ true)
     → turnsLeft w < turnsLeft s
 turns-less {s = s} w n l on f = rw on (go (w .more) refl)
   where
@@ -151,7 +156,8 @@ turns-less {s = s} w n l on f = rw on (go (w .more) refl)
     go false e = omega (arith, n .takes .counts, l)
 
 -- there is a number for the bytes written
-pub going-fits : {places : ℕ} {a : Bool} {memory ms ns os : List ℕ} {s r : Stream} → Going places a memory s ms → Next places s ms r ns os → r .written + r .filled ≤ 18446744073709551615
+pub going-fits : {places : ℕ} {a : Bool} {memory ms ns os : List ℕ} {s r : Stream}
+    → Going places a memory s ms → Next places s ms r ns os → r .written + r .filled ≤ 18446744073709551615
 going-fits g n = omega (arith, g .bound, g .ran .counted, n .takes .same, n .takes .each, n .takes .counts)
 
 -- ---- the end of a run
@@ -165,7 +171,8 @@ pub answered-failed : {places : ℕ} {a : Bool} {memory ms : List ℕ} {s : Stre
 answered-failed g e = record { ran = g .ran; written = λ _ f. absurd (false≢true (sym f ∙ e)) }
 
 -- BYTES IN, BYTES OUT: what was handed over has the length of the trace
-pub answered-all : {places : ℕ} {a : Bool} {memory ms : List ℕ} {s : Stream} (r : Stream) → Going places a memory s ms → Writes s (length (lastLine (textOf (s .trace .line)))) r
+pub answered-all : {places : ℕ} {a : Bool} {memory ms : List ℕ} {s : Stream} (r : Stream)
+    → Going places a memory s ms → Writes s (length (lastLine (textOf (s .trace .line)))) r
     → Answered places a memory r ms
 answered-all {places = places} {memory = memory} {ms = ms} {s = s} r g w =
     let x = g .ran in

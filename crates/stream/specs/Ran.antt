@@ -25,13 +25,13 @@ pub record Ran (places : ℕ) (memory : List ℕ) (s : Stream) (memory' : List �
   pub stands : standing (s .trace) memory' answers ≡ steps places (atFirst memory) input
   pub counted : length input + s .left ≡ most
 
--- the same on the way: where answers are wanted they were handed over, at most nineteen bytes for a byte
+-- the same on the way: if answers are wanted, they were handed over, at most nineteen bytes for each byte
 pub record Going (places : ℕ) (answering : Bool) (memory : List ℕ) (s : Stream) (memory' : List ℕ) : Type 0 where
   pub ran : Ran places memory s memory'
   pub written : answering ≡ true → s .written ≡ length (ran .answers)
   pub bound : s .written ≤ 19 * length (ran .input)
 
--- ALL ANSWERED: where nothing failed, as many bytes were handed over as the trace of the input has
+-- ALL ANSWERED: if nothing failed, as many bytes were handed over as the trace of the input has
 pub record Answered (places : ℕ) (answering : Bool) (memory : List ℕ) (r : Stream) (memory' : List ℕ) : Type 0 where
   pub ran : Ran places memory r memory'
   pub written : answering ≡ true → r .failed ≡ false → r .written ≡ length (traceOf places memory (ran .input))

@@ -20,7 +20,7 @@ abbrev pub fails : ℕ → ℤ → ℕ → Bool
 fails left (pos k) n = ltb left (min k n)
 fails left (negsuc k) n = true
 
--- THE PIECE that a read gave, by its answer and the buffer; none where it has more bytes than may still be read
+-- THE PIECE that a read gave, by its answer and the buffer; none if it has more bytes than may still be read
 unfoldable pub pieceOf : ℕ → ℤ → List ℕ → List ℕ
 pieceOf left got input = pick (leb (clamped got (length input)) left) (take (clamped got (length input)) input) []
 
@@ -38,7 +38,7 @@ pub record Next (places : ℕ) (s : Stream) (memory : List ℕ) (r : Stream) (me
   pub piece : List ℕ
   pub takes : Takes places s piece memory r memory' out'
 
--- N BYTES HANDED OVER to be written: nothing else changes, but that a write that fails ends the run
+-- N BYTES HANDED OVER to be written: nothing else changes, except that a write that fails ends the run
 pub record Writes (s : Stream) (n : ℕ) (r : Stream) : Type 0 where
   pub trace : r .trace ≡ s .trace
   pub left : r .left ≡ s .left

@@ -83,16 +83,19 @@ first-by s n m call o e f =
 
 -- ---- handing out and taking back
 
-module _ (places : ℕ) (r : Record) (ws vs : List ℕ) (m : ℕ) (q : Out) (t : Reply) (k : Request) (e : m ≡ lentOf (r .words) (length ws)) (g : t ≡ replyOf q) where
+module _ (places : ℕ) (r : Record) (ws vs : List ℕ) (m : ℕ) (q : Out) (t : Reply) (k : Request)
+    (e : m ≡ lentOf (r .words) (length ws)) (g : t ≡ replyOf q) where
   -- a size asked of the heap in use
-  pub hand-by : (size : ℕ) → k ≡ HandOut size → HandsOut places r (midOf 0 (m - 0) ws) size q vs → outcomeOf t (putMid 0 (m - 0) ws vs) ≡ asked places (seen r ws) k
+  pub hand-by : (size : ℕ) → k ≡ HandOut size → HandsOut places r (midOf 0 (m - 0) ws) size q vs
+      → outcomeOf t (putMid 0 (m - 0) ws vs) ≡ asked places (seen r ws) k
   hand-by size h f =
       ap (λ (x : Reply). outcomeOf x (putMid 0 (m - 0) ws vs)) g
       ∙ first-by (seen r ws) (r .words) m (λ s. hand base 65529 places s size) (outcome (q .answer) (seen (q .rec) vs)) e f
       ∙ sym (ap (λ (x : Request). asked places (seen r ws) x) h)
 
   -- a payload given back to it
-  pub back-by : (p : ℕ) → k ≡ TakeBack p → TakesBack places r (midOf 0 (m - 0) ws) p q vs → outcomeOf t (putMid 0 (m - 0) ws vs) ≡ asked places (seen r ws) k
+  pub back-by : (p : ℕ) → k ≡ TakeBack p → TakesBack places r (midOf 0 (m - 0) ws) p q vs
+      → outcomeOf t (putMid 0 (m - 0) ws vs) ≡ asked places (seen r ws) k
   back-by p h f =
       ap (λ (x : Reply). outcomeOf x (putMid 0 (m - 0) ws vs)) g
       ∙ first-by (seen r ws) (r .words) m (λ s. back base 65529 places s p) (outcome (q .answer) (seen (q .rec) vs)) e f
@@ -101,7 +104,8 @@ module _ (places : ℕ) (r : Record) (ws vs : List ℕ) (m : ℕ) (q : Out) (t :
 -- ---- making
 
 -- a heap of n words asked for
-pub make-by : (places : ℕ) (r : Record) (ws vs : List ℕ) (n : ℕ) (t : Reply) (k : Request) → k ≡ Make n → outcomeOf t vs ≡ making (seen r ws) n → outcomeOf t vs ≡ asked places (seen r ws) k
+pub make-by : (places : ℕ) (r : Record) (ws vs : List ℕ) (n : ℕ) (t : Reply) (k : Request) → k ≡ Make n
+    → outcomeOf t vs ≡ making (seen r ws) n → outcomeOf t vs ≡ asked places (seen r ws) k
 make-by places r ws vs n t k h e = e ∙ sym (ap (λ (x : Request). asked places (seen r ws) x) h)
 
 -- a refused making leaves the words
@@ -169,7 +173,8 @@ module _ (r : Record) (ws vs : List ℕ) (n : ℕ) (q : Out) (t : Reply) (fits :
 -- ---- the line
 
 -- a frame is its request
-pub good-by : (places : ℕ) (r : Record) (ws vs : List ℕ) (t : Reply) (l : Line) (k : Request) → l ≡ Good k → outcomeOf t vs ≡ asked places (seen r ws) k → outcomeOf t vs ≡ turned places (seen r ws) l
+pub good-by : (places : ℕ) (r : Record) (ws vs : List ℕ) (t : Reply) (l : Line) (k : Request) → l ≡ Good k
+    → outcomeOf t vs ≡ asked places (seen r ws) k → outcomeOf t vs ≡ turned places (seen r ws) l
 good-by places r ws vs t l k h e = e ∙ sym (ap (λ (x : Line). turned places (seen r ws) x) h)
 
 -- any other line is refused

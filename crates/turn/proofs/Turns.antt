@@ -30,7 +30,7 @@ use Rattle.turn.specs.declared.Reply.{Reply}
 use Rattle.turn.specs.Told.{outcomeOf}
 use Rattle.turn.specs.Turned.{withWords, before, onFirst, goingOn, making, turned}
 
--- the contract of `turn`, with so many cache places: the record r over the memory ws, and the line l, give the reply t and leave the memory vs
+-- the contract of `turn`, with this many cache places: the record r over the memory ws, and the line l, give the reply t and leave the memory vs
 abbrev pub Turns : ℕ → Record → List ℕ → Line → Reply → List ℕ → Type 0
 Turns places r ws l t vs = outcomeOf t vs ≡ turned places (seen r ws) l
 
@@ -85,8 +85,10 @@ turned-kept : (places : ℕ) (s : State) (l : Line) → Kept s (turned places s 
 unfolding call
 turned-kept places s Bad = λ h. refl
 turned-kept places s (Good (Make n)) = making-kept s n
-turned-kept places s (Good (HandOut size)) = first-kept (s .rest .words) (λ t. hand base 65529 places t size) s (λ t. narrow-demands places .refused (ask size) t)
-turned-kept places s (Good (TakeBack p)) = first-kept (s .rest .words) (λ t. back base 65529 places t p) s (λ t. narrow-demands places .refused (give p) t)
+turned-kept places s (Good (HandOut size)) =
+    first-kept (s .rest .words) (λ t. hand base 65529 places t size) s (narrow-demands places .refused (ask size))
+turned-kept places s (Good (TakeBack p)) =
+    first-kept (s .rest .words) (λ t. back base 65529 places t p) s (narrow-demands places .refused (give p))
 
 -- a refusal changes nothing
 pub turn-refused : (places : ℕ) (r : Record) (ws vs : List ℕ) (l : Line) (t : Reply)
@@ -96,4 +98,5 @@ pub turn-refused : (places : ℕ) (r : Record) (ws vs : List ℕ) (l : Line) (t 
     → FourPlaces r
     → (t .rec ≡ r) × (vs ≡ ws)
 turn-refused places r ws vs l t e h ft fr =
-    seen-same (t .rec) r vs ws ft fr (ap (λ (o : Outcome State). o .after) e ∙ turned-kept places (seen r ws) l (λ z. h (ap (λ (o : Outcome State). o .number) e ∙ z)))
+    let kept = turned-kept places (seen r ws) l (λ z. h (ap (λ (o : Outcome State). o .number) e ∙ z)) in
+    seen-same (t .rec) r vs ws ft fr (ap (λ (o : Outcome State). o .after) e ∙ kept)

@@ -1,5 +1,5 @@
 -- ONE TURN OF THE TRACE (document 01, "Trace frames"), by the rules' own functions. A state here is the record and the WHOLE memory: the heap in use is the
--- memory's first words, as many as the record says, and after a turn an outcome's state says every word of the memory.
+-- memory's first words, as many as the record says, and after a turn an outcome's state holds every word of the memory.
 use mathlib.Core.List.{List, _++_}
 use Prim.Native.Nat.{ℕ}
 use lib.Dec.{eqb, leb}
@@ -19,11 +19,11 @@ use Rattle.frame.specs.declared.line.Line.the-variants.{Good, Bad}
 abbrev pub withWords : State → List ℕ → State
 withWords s ws = record { prevs = s .prevs; nexts = s .nexts; words = ws; rest = s .rest }
 
--- an outcome on lent words, with the words of the memory that were not lent behind them
+-- an outcome on lent words, followed by the words of the memory that were not lent
 abbrev pub before : Outcome State → List ℕ → Outcome State
 before o ws = says (o .number) (o .value) (o .compared) (withWords (o .after) (o .after .words ++ ws))
 
--- a call on the first n words of the memory (on all of them, where there are fewer); the words behind them are kept
+-- a call on the first n words of the memory (on all of them, if there are fewer); the words after them are kept
 unfoldable pub onFirst : ℕ → (State → Outcome State) → State → Outcome State
 onFirst n call s = before (call (withWords s (take n (s .words)))) (drop n (s .words))
 
@@ -31,11 +31,11 @@ onFirst n call s = before (call (withWords s (take n (s .words)))) (drop n (s .w
 abbrev pub goingOn : State → Outcome State → Outcome State
 goingOn s o = pick (eqb (o .number) 6) (says 6 0 0 s) o
 
--- making n words: 6 where the memory has fewer, else as the rules make a heap of its first n words
+-- making a heap of n words: 6 if the memory has fewer, else as the rules make a heap of its first n words
 unfoldable pub making : State → ℕ → Outcome State
 making s n = pick (leb n (length (s .words))) (goingOn s (onFirst n (λ t. make narrow 65529 (t .words)) s)) (says 6 0 0 s)
 
--- a request, with so many cache places: making, or one of the rules' calls on the heap in use
+-- a request, with this many cache places: making, or one of the rules' calls on the heap in use
 abbrev pub asked : ℕ → State → Request → Outcome State
 asked places s (Make n) = making s n
 asked places s (HandOut size) = onFirst (s .rest .words) (λ t. hand base 65529 places t size) s

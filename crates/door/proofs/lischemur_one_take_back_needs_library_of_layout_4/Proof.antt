@@ -34,8 +34,10 @@ abbrev Says : Claim
 Says h ys n r h′ zs = replied r (seen h′ zs) ≡ back base 65529 (one .places) (seen h ys) n
 
 -- where the source's contract is not this claim, the error here names what differs
-says-it : {M : Type 1} (𝓤 : URA M) (H : Heap 𝓤) (A : Atoms 𝓤) (mem : Memory → SProp 𝓤) (run : Routine → Fun 𝓤) (κs : Lfts 2) (a : RefT Record) (b : RefT (List ℕ)) (n r : _) (a′ b′ : _)
-    → f.ensures-1 𝓤 H κs A mem run a b n (record { entry = a; exit = a′ }) (record { entry = b; exit = b′ }) (record { entry = n; exit = n }) r ≡ fact 𝓤 (Says (now a) (now b) n r (now a′) (now b′))
+says-it : {M : Type 1} (𝓤 : URA M) (H : Heap 𝓤) (A : Atoms 𝓤) (mem : Memory → SProp 𝓤) (run : Routine → Fun 𝓤) (κs : Lfts 2)
+    (a : RefT Record) (b : RefT (List ℕ)) (n r : _) (a′ b′ : _)
+    → f.ensures-1 𝓤 H κs A mem run a b n (record { entry = a; exit = a′ }) (record { entry = b; exit = b′ }) (record { entry = n; exit = n }) r
+    ≡ fact 𝓤 (Says (now a) (now b) n r (now a′) (now b′))
 says-it 𝓤 H A mem run κs a b n r a′ b′ = refl
 
 -- the door's theorem

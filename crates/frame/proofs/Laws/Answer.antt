@@ -117,4 +117,5 @@ answered-by out x y z number value compared h e f g =
     let three = put-behind out (d ++ digitsOf 8 value) (putMid 2 8 (putMid 0 2 out x) y) z 10 8 compared l (omega arith) two g in
     let p : List ℕ = d ++ digitsOf 8 value ++ digitsOf 8 compared in
     let m : length p ≡ 18 = simp (length-append, length-digits) in
-    rw (answered-room out number value compared h, three, drop-cons out 18 0 h, set-at p (getD out 18 0) (drop 19 out) 10 18 m, append-assoc p (10 ∷ []) (drop 19 out))
+    let fed = set-at p (getD out 18 0) (drop 19 out) 10 18 m in
+    rw (answered-room out number value compared h, three, drop-cons out 18 0 h, fed, append-assoc p (10 ∷ []) (drop 19 out))

@@ -78,7 +78,7 @@ all-append (a ∷ xs) bs = rw (all-append xs bs) (sym (and-assoc (ltb (digitOf a
 
 -- ---- the digits of a number
 
--- they are so many
+-- how many they are
 pub length-digits : (w n : ℕ) → length (digitsOf w n) ≡ w
 unfolding digitsOf
 length-digits zero n = refl

@@ -5,18 +5,20 @@
 --     four-exactly, four-by-layout     4, by what `liveIn` gives and by the layout
 --     five-exactly, six-exactly
 --     answers-possible, answers-returned, freed-returned     the numbers there are, and what comes with them
+--     no-fit-by-runs     3 as it is seen in the layout: by the longest run of touching free or cached chunks
 --     position, compared-exactly     which chunk is handed out, and how many were compared where nothing fits
 use mathlib.Core.Path.{_≡_, sym, ap, _∙_, subst}
-use mathlib.Core.Logic.{_≢_}
+use mathlib.Core.Logic.{_≢_, _⊎_}
 use mathlib.Core.List.{List}
-use Prim.Native.Nat.{ℕ, _≤_, _<_}
+use Prim.Native.Nat.{ℕ, _+_, _≤_, _<_}
 use lib.ListN.{length}
-use Rattle.words.specs.Sizes.{roundedOf}
+use Rattle.words.specs.Sizes.{roundedOf, thresholdOf}
 use Rattle.rules.specs.Rules.{Outcome}
 use Rattle.rules.specs.Making.{State}
-use Rattle.rules.specs.Machine.{Model, Request, ask}
+use Rattle.rules.specs.Machine.{Model, Request, ask, withoutCacheM}
 use Rattle.rules.specs.Sound.{Accepted}
-use Rattle.rules.specs.Demands.{FromCache, FromList, LiveAt}
+use Rattle.rules.specs.FreeRuns.{longestRun}
+use Rattle.rules.specs.Demands.{NoneServes, FromCache, FromList, FromMerged, LiveAt}
 use Rattle.rules.specs.Claims.{Demands, Iff, Allowable, numbersOf}
 use Rattle.rules.proofs.Proved.{narrow-demands}
 use Rattle.rules.proofs.Promises.{narrow-promises}
@@ -75,24 +77,35 @@ module _ (places : ℕ) where
           let q = ap (λ (q : Outcome State). q .number) e in
           (λ z. ours .notLive (seen r ws) m h n .0 (sym q ∙ z), λ z. q ∙ ours .notLive (seen r ws) m h n .1 z)
 
-      -- below 512 at most one free chunk is compared; for no fit none below 512, else the whole class 5 list
+      -- 3 as it is seen in the layout: no cached chunk serves, and no run of touching free or cached chunks reaches the threshold
+      pub no-fit-by-runs : HandsOut places r ws n o vs
+          → Allowable (ask n)
+          → Iff (number (o .answer) ≡ 3) (NoneServes m (roundedOf n) × (longestRun (m .figs .cached) 0 0 (m .cs) < thresholdOf (roundedOf n)))
+      no-fit-by-runs e a =
+          let q = ap (λ (q : Outcome State). q .number) e in
+          (λ z. ours .byRuns (seen r ws) m h n a .0 (sym q ∙ z), λ z. q ∙ ours .byRuns (seen r ws) m h n a .1 z)
+
+      -- below 512 at most one free chunk is compared; for no fit none below 512, else the whole class 5 list and that with every cached chunk released
       pub compared-exactly : HandsOut places r ws n o vs
           → (roundedOf n < 512 → compared (o .answer) ≤ 1)
           × (roundedOf n < 512 → number (o .answer) ≡ 3 → compared (o .answer) ≡ 0)
-          × (512 ≤ roundedOf n → number (o .answer) ≡ 3 → compared (o .answer) ≡ length (m .orders 5))
+          × (512 ≤ roundedOf n → number (o .answer) ≡ 3 → compared (o .answer) ≡ length (m .orders 5) + length (withoutCacheM m .orders 5))
       compared-exactly e =
           let q = ap (λ (q : Outcome State). q .number) e in
           let c = ap (λ (q : Outcome State). q .compared) e in
           let d = ours .compared (seen r ws) m h n in
           (λ s. subst (λ (x : ℕ). x ≤ 1) (sym c) (d .0 s), λ s z. c ∙ d .1 s (sym q ∙ z), λ s z. c ∙ d .2 s (sym q ∙ z))
 
-      -- a handout with count 0 is the oldest cached chunk that serves; with count c none serves, and it is the c-th chunk of the search, the first that reaches
+      -- a handout with count 0 is the oldest cached chunk that serves; with count c none serves, and it is the c-th chunk of the search, the first that reaches;
+      -- or none of the search reaches, and it is the first that does with every cached chunk released, c counting both
       pub position : HandsOut places r ws n o vs
           → number (o .answer) ≡ 0
           → (compared (o .answer) ≡ 0 → FromCache m (roundedOf n) (value (o .answer)))
-          × (0 < compared (o .answer) → FromList m (roundedOf n) (value (o .answer)) (compared (o .answer)))
+          × (0 < compared (o .answer) → FromList m (roundedOf n) (value (o .answer)) (compared (o .answer))
+          ⊎ FromMerged m (roundedOf n) (value (o .answer)) (compared (o .answer)))
       position e z =
-          subst (λ (x : Outcome State). (x .compared ≡ 0 → FromCache m (roundedOf n) (x .value)) × (0 < x .compared → FromList m (roundedOf n) (x .value) (x .compared))) (sym e)
+          subst (λ (x : Outcome State). (x .compared ≡ 0 → FromCache m (roundedOf n) (x .value))
+          × (0 < x .compared → FromList m (roundedOf n) (x .value) (x .compared) ⊎ FromMerged m (roundedOf n) (x .value) (x .compared))) (sym e)
           (ours .position (seen r ws) m h n (sym (ap (λ (q : Outcome State). q .number) e) ∙ z))
 
   -- 5 exactly for an allowable request to a heap that is not sound
@@ -100,7 +113,8 @@ module _ (places : ℕ) where
       → Calls places k r ws o vs
       → Iff (number (o .answer) ≡ 5) (Allowable k × (SoundIn places r ws → ⊥))
   five-exactly r ws vs k o e =
-      subst (λ (x : Outcome State). Iff (x .number ≡ 5) (Allowable k × (SoundIn places r ws → ⊥))) (sym (outcome-call places r ws vs k o e)) (told .five k (seen r ws))
+      subst (λ (x : Outcome State). Iff (x .number ≡ 5) (Allowable k × (SoundIn places r ws → ⊥))) (sym (outcome-call places r ws vs k o e))
+      (told .five k (seen r ws))
 
   -- the numbers there are
   pub answers-possible : (r : Record) (ws vs : List ℕ) (k : Request) (o : Out)

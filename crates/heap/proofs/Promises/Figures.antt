@@ -3,10 +3,11 @@
 --                          water; the flag is 0 or 1
 --     figures-made, figures-handed-out, figures-taken-back     after each call
 use mathlib.Core.Path.{_≡_, sym, ap, _∙_, subst}
+use mathlib.Core.Logic.{_⊎_}
 use mathlib.Core.List.{List}
 use Prim.Native.Nat.{ℕ, _≤_, _<_, _+_, _-_}
 use Rattle.rules.specs.Chunks.{usedSum}
-use Rattle.rules.specs.Rules.{Figures, Outcome}
+use Rattle.rules.specs.Rules.{Figures, Outcome, withoutCacheF}
 use Rattle.rules.specs.Making.{State}
 use Rattle.rules.specs.Machine.{Model}
 use Rattle.rules.specs.Sound.{liveSum}
@@ -71,19 +72,23 @@ module _ (places : ℕ) where
       )
 
   -- a handout with count 0, from the cache: in use grows by the length handed out, l, and committed, peak, high water and flag stay; with another count, from a
-  -- list: in use and committed grow by l, peak and high water rise to what is now committed and to the chunk's end, and the flag goes on where high water rose
+  -- list: in use and committed grow by l, peak and high water rise to what is now committed and to the chunk's end, and the flag goes on where high water rose;
+  -- the same where the cache was emptied for it, from the figures with the cache empty: committed was what tasks hold
   pub figures-handed-out : (r : Record) (ws vs : List ℕ) (n : ℕ) (o : Out)
       → HandsOut places r ws n o vs
       → number (o .answer) ≡ 0
       → (compared (o .answer) ≡ 0
       → HeldOnly (figuresOf r) (figuresOf (o .rec)) (r .«in_use» + liveIn (o .rec) vs (value (o .answer))))
       × (0 < compared (o .answer)
-      → CountedUp (figuresOf r) (figuresOf (o .rec)) (liveIn (o .rec) vs (value (o .answer))) (value (o .answer) - 4 + liveIn (o .rec) vs (value (o .answer))))
+      → let l = liveIn (o .rec) vs (value (o .answer)) in
+      CountedUp (figuresOf r) (figuresOf (o .rec)) l (value (o .answer) - 4 + l)
+      ⊎ CountedUp (withoutCacheF (figuresOf r)) (figuresOf (o .rec)) l (value (o .answer) - 4 + l))
   figures-handed-out r ws vs n o e z =
       subst (λ (x : Outcome State). x .number ≡ 0
       → (x .compared ≡ 0 → HeldOnly (figuresOf r) (x .after .rest) (r .«in_use» + liveAt base 65529 places (x .after) (x .value)))
-      × (0 < x .compared → CountedUp (figuresOf r) (x .after .rest) (liveAt base 65529 places (x .after) (x .value))
-      (x .value - 4 + liveAt base 65529 places (x .after) (x .value))))
+      × (0 < x .compared
+      → let l = liveAt base 65529 places (x .after) (x .value) in
+      CountedUp (figuresOf r) (x .after .rest) l (x .value - 4 + l) ⊎ CountedUp (withoutCacheF (figuresOf r)) (x .after .rest) l (x .value - 4 + l)))
       (sym e) (told .handedFigures (seen r ws) n) z
 
   -- after taking back

@@ -1,6 +1,6 @@
 -- WHICH WORDS A CALL WRITES. Assumes nothing.
 --     making-writes-only     making changes words 0, 1, n - 2 and n - 1 and no other
---     handing-out-writes-only, taking-back-writes-only     a call changes only words of the chunks that it takes, cuts, releases or merges, the header right of
+--     handing-out-writes-only, taking-back-writes-only     a call changes only words of the chunks that it takes, cuts, releases or merges, the headers right of
 --                          them, and link words of free chunks
 use mathlib.Core.Path.{_≡_, sym, ap, _∙_, subst}
 use mathlib.Core.Logic.{_≢_}
@@ -8,18 +8,20 @@ use mathlib.Core.List.{List, [], _∷_, _++_}
 use Prim.Native.Nat.{ℕ, _+_, _-_, _/_}
 use lib.ListN.{length}
 use Rattle.words.specs.Links.{narrow}
+use Rattle.words.specs.Sizes.{roundedOf}
 use Rattle.words.specs.Tags.{at}
 use Rattle.rules.specs.Chunks.{Chunk, busy, total}
 use Rattle.rules.specs.Rules.{Outcome, byteOf, nameOf}
 use Rattle.rules.specs.Making.{State}
-use Rattle.rules.specs.Machine.{Model, sizeM}
+use Rattle.rules.specs.Machine.{Model, sizeM, withoutCacheM}
 use Rattle.heap.specs.declared.record.Record.{Record}
 use Rattle.heap.specs.declared.calls.Out.{Out}
 use Rattle.heap.specs.Seen.{seen}
-use Rattle.heap.specs.Answer.{value}
+use Rattle.heap.specs.Answer.{value, compared}
 use Rattle.heap.specs.Promises.{Makes, HandsOut, TakesBack, ShowsIn}
 use Rattle.rules.specs.Orders.{freeHead, freeLast}
-use Rattle.rules.specs.Frame.{NoLink, Outside}
+use Rattle.rules.specs.Frame.{NoLink, Outside, Clear}
+use Rattle.rules.specs.Demands.{FromMerged}
 use Rattle.rules.proofs.Making.{making-writes}
 use Rattle.rules.proofs.Frame.{narrow-frame}
 
@@ -35,17 +37,20 @@ module _ (places : ℕ) where
   making-writes-only ws vs o i e a b c d =
       ap (λ (x : Outcome State). at (x .after .words) i) e ∙ making-writes narrow 65529 ws .1 i a b b c d
 
-  -- handing out at payload v: the chunk there, as long as it was before it was cut, and the header right of it; links of free chunks
+  -- handing out at payload v: the chunk there, as long as it was before it was cut, and the header right of it; links of free chunks; where the cache was emptied
+  -- for it, the free chunks of the layout without the cache, and headers right of them
   pub handing-out-writes-only : (r : Record) (ws vs : List ℕ) (n : ℕ) (o : Out) (m : Model) (i : ℕ)
       → HandsOut places r ws n o vs
       → ShowsIn places r ws m
       -- word i is neither of the two words after a free chunk's header
       → NoLink m i
       → Outside ((value (o .answer) - 4) / 4) ((value (o .answer) - 4 + sizeM m (nameOf (value (o .answer) - 4))) / 4) i
+      → (FromMerged m (roundedOf n) (value (o .answer)) (compared (o .answer)) → Clear (withoutCacheM m) i)
       → at vs i ≡ at ws i
   handing-out-writes-only r ws vs n o m i e h =
       subst (λ (x : Outcome State). NoLink m i → Outside ((x .value - 4) / 4) ((x .value - 4 + sizeM m (nameOf (x .value - 4))) / 4) i
-      → at (x .after .words) i ≡ at ws i) (sym e) (narrow-frame places .hand (seen r ws) m n i h)
+      → (FromMerged m (roundedOf n) (x .value) (x .compared) → Clear (withoutCacheM m) i) → at (x .after .words) i ≡ at ws i) (sym e)
+      (narrow-frame places .hand (seen r ws) m n i h)
 
   -- taking back: the older one of the cached chunk and this one, where there are both, with its free neighbours, and the header right of them; links of free
   -- chunks

@@ -126,7 +126,8 @@ module _ (places : ℕ) where
       let h = sound-kept places r ws vs (ask n) o e (served-exactly places r ws vs n o e .0 z .1) in
       let s = ap (λ (q : Outcome State). q .after) e in
       let v = ap (λ (q : Outcome State). q .value) e in
-      let f = ours .empty (seen r ws) (h .0) n (sym (ap (λ (q : Outcome State). q .number) e) ∙ z) (subst (λ (t : State). Shows base 65529 places t (h .0)) s (h .1)) in (
+      let done = sym (ap (λ (q : Outcome State). q .number) e) ∙ z in
+      let f = ours .empty (seen r ws) (h .0) n done (subst (λ (t : State). Shows base 65529 places t (h .0)) s (h .1)) in (
         h .0,
         h .1,
         (

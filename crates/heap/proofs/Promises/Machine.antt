@@ -43,7 +43,8 @@ module _ (places : ℕ) where
       × ShowsIn places (o .rec) vs (callM places k m .after)
   one-step r ws vs k o m e h =
       let w = told .step k (seen r ws) m h in
-      (answer-call places r ws vs k o e ∙ w .0, subst (λ (s : State). Shows base 65529 places s (callM places k m .after)) (sym (after-call places r ws vs k o e)) (w .1))
+      let left = sym (after-call places r ws vs k o e) in
+      (answer-call places r ws vs k o e ∙ w .0, subst (λ (s : State). Shows base 65529 places s (callM places k m .after)) left (w .1))
 
   -- what a heap from making on showed at first
   pub made-shown : (n : ℕ) (es : List (Event Request)) (bs : List rule.Answer) (q : Record) (vs : List ℕ) (x : FromMaking places n es bs q vs)
@@ -103,7 +104,9 @@ module _ (places : ℕ) where
       → Alike r ws q us
       → LiveIn places r ws i
       → Alike r (set ws i v) q us
-  alike-stores r q ws us i v a l = (a .0, write-shows (narrow-edition places) (seen r ws) (a .0) i v (a .1) (live-found (narrow-edition places) (seen r ws) i (l .1 .0) (l .0) (l .1 .1)), a .2)
+  alike-stores r q ws us i v a l =
+      let found = live-found (narrow-edition places) (seen r ws) i (l .1 .0) (l .0) (l .1 .1) in
+      (a .0, write-shows (narrow-edition places) (seen r ws) (a .0) i v (a .1) found, a .2)
 
   -- the other way round
   pub alike-turned : (r q : Record) (ws us : List ℕ)

@@ -25,7 +25,7 @@ pub counted-on : (n : ℕ) (r : Row) (q : Read) → counted n (before r q) ≡ c
 counted-on n r (rows rs) = let e : n + suc (length rs) ≡ n + 1 + length rs = omega arith in ap Rows e
 counted-on n r (bad k) = refl
 
--- what the count tells: all rows, so many
+-- what the count says: that all are rows, and how many
 pub counted-rows : (q : Read) (n : ℕ) → Rows n ≡ counted 0 q → (rs : List Row) × (q ≡ rows rs) × (length rs ≡ n)
 counted-rows (rows rs) n e = let h : n ≡ 0 + length rs = cc in (rs, refl, omega arith)
 counted-rows (bad k) n e = let z : _≡_ {A = ℕ} 0 1 = cc in absurd (omega arith)

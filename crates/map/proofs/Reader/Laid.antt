@@ -135,5 +135,6 @@ module _ (places : ℕ) (bs room : List ℕ) where
         (sym (laid-fits (length (all .0)) (wordsOf (all .0)) room (3 * length (all .0)) (length-words (all .0)) (omega arith)))
 
 -- as many places as are meant
-pub read-by : (bs room : List ℕ) (o : Outcome (List ℕ)) (m places : ℕ) → o ≡ readInto (readAll 65529 m bs) room → m ≡ places → o ≡ readInto (readAll 65529 places bs) room
+pub read-by : (bs room : List ℕ) (o : Outcome (List ℕ)) (m places : ℕ) → o ≡ readInto (readAll 65529 m bs) room → m ≡ places
+    → o ≡ readInto (readAll 65529 places bs) room
 read-by bs room o m places e h = e ∙ ap (λ (n : ℕ). readInto (readAll 65529 n bs) room) h

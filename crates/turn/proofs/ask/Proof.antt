@@ -58,24 +58,35 @@ same-length c = search needs
 
 returns : tie.Need-returns
 returns c =
-    let start = c .before .before .before .before .before .before .before .before in
-    make-by (placesOf (start .args .kind)) (start .args .rec) (start .args .memory .now) _ _ (c .before .before .make .result) _ (c .before .before .before .before .before .request .given .1) (c .before .before .make .ensures)
+    let called = c .before .before in
+    let chosen = called .before .before .before in
+    let start = chosen .before .before .before in
+    make-by (placesOf (start .args .kind)) (start .args .rec) (start .args .memory .now) _ _ (called .make .result) _ (chosen .request .given .1)
+    (called .make .ensures)
 
 same-length-2 : tie.Need-same-length-2
 same-length-2 c = search needs
 
 returns-2 : tie.Need-returns-2
 returns-2 c =
-    let start = c .before .before .before .before .before .before .before .before .before .before in
-    hand-by (placesOf (start .args .kind)) (start .args .rec) (start .args .memory .now) _ _ (c .before .before .before .hand-out .result) (c .tell .result) _ (c .before .before .before .before .before .lent-words .ensures) (c .tell .ensures) _ (c .before .before .before .before .before .before .before .request2 .given .1) (c .before .before .before .hand-out .ensures)
+    let called = c .before .before .before in
+    let lent = called .before .before in
+    let chosen = lent .before .before in
+    let start = chosen .before .before .before in
+    hand-by (placesOf (start .args .kind)) (start .args .rec) (start .args .memory .now) _ _ (called .hand-out .result) (c .tell .result) _
+    (lent .lent-words .ensures) (c .tell .ensures) _ (chosen .request2 .given .1) (called .hand-out .ensures)
 
 same-length-3 : tie.Need-same-length-3
 same-length-3 c = search needs
 
 returns-3 : tie.Need-returns-3
 returns-3 c =
-    let start = c .before .before .before .before .before .before .before .before .before .before in
-    back-by (placesOf (start .args .kind)) (start .args .rec) (start .args .memory .now) _ _ (c .before .before .before .take-back .result) (c .tell2 .result) _ (c .before .before .before .before .before .lent-words2 .ensures) (c .tell2 .ensures) _ (c .before .before .before .before .before .before .before .request3 .given .1) (c .before .before .before .take-back .ensures)
+    let called = c .before .before .before in
+    let lent = called .before .before in
+    let chosen = lent .before .before in
+    let start = chosen .before .before .before in
+    back-by (placesOf (start .args .kind)) (start .args .rec) (start .args .memory .now) _ _ (called .take-back .result) (c .tell2 .result) _
+    (lent .lent-words2 .ensures) (c .tell2 .ensures) _ (chosen .request3 .given .1) (called .take-back .ensures)
 
 pub ask-spec : {M : Type 1} → statement M
 ask-spec =

@@ -32,13 +32,25 @@ same-length : tie.Need-same-length
 same-length c = search needs
 
 returns-2 : tie.Need-returns-2
-returns-2 c = make-refused (c .before .before .before .before .before .before .before .before .before .before .args .rec) (c .before .before .before .before .before .before .before .before .before .before .args .memory .now) _ _ (c .before .before .before .before .before .before .make .result) (c .before .before .before .tell .result) (c .before .before .before .before .before .before .before .before .if1 .left) (c .before .before .before .before .before .before .make .ensures) (c .before .before .before .tell .ensures) _ (c .before .if2 .taken) (c .refuse2 .ensures)
+returns-2 c =
+    let told = c .before .before .before in
+    let called = told .before .before .before in
+    let tested = called .before .before in
+    let start = tested .before .before in
+    make-refused (start .args .rec) (start .args .memory .now) _ _ (called .make .result) (told .tell .result)
+    (tested .if1 .left) (called .make .ensures) (told .tell .ensures) _ (c .before .if2 .taken) (c .refuse2 .ensures)
 
 same-length-2 : tie.Need-same-length-2
 same-length-2 c = search needs
 
 returns-3 : tie.Need-returns-3
-returns-3 c = make-done (c .before .before .before .before .before .before .before .before .before .args .rec) (c .before .before .before .before .before .before .before .before .before .args .memory .now) _ _ (c .before .before .before .before .before .make .result) (c .before .before .tell .result) (c .before .before .before .before .before .before .before .if1 .left) (c .before .before .before .before .before .make .ensures) (c .before .before .tell .ensures) (c .if2 .left)
+returns-3 c =
+    let told = c .before .before in
+    let called = told .before .before .before in
+    let tested = called .before .before in
+    let start = tested .before .before in
+    make-done (start .args .rec) (start .args .memory .now) _ _ (called .make .result) (told .tell .result)
+    (tested .if1 .left) (called .make .ensures) (told .tell .ensures) (c .if2 .left)
 
 pub make-spec : {M : Type 1} → statement M
 make-spec =

@@ -27,8 +27,11 @@ same-length c = search needs
 
 returns-2 : tie.Need-returns-2
 returns-2 c =
-    let start = c .before .before .before .before .before .before .before .before in
-    good-by (placesOf (start .args .kind)) (start .args .rec) (start .args .memory .now) _ (c .before .before .ask .result) _ _ (c .before .before .before .before .before .line .given .1) (c .before .before .ask .ensures)
+    let called = c .before .before in
+    let read = called .before .before .before in
+    let start = read .before .before .before in
+    good-by (placesOf (start .args .kind)) (start .args .rec) (start .args .memory .now) _ (called .ask .result) _ _ (read .line .given .1)
+    (called .ask .ensures)
 
 pub turn-spec : {M : Type 1} → statement M
 turn-spec =

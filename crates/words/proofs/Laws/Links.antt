@@ -80,7 +80,8 @@ module _ (W : Width) (a : Side) (ws : List ℕ) (w l : ℕ) where
   link-setLink-other u h = link-setLink-apart a u (omega arith)
 
 -- the link word is read, and what the width puts together of it and the link is stored: the link is set
-pub setLink-by : (W : Width) (a : Side) (ws vs : List ℕ) (w l i x : ℕ) → i ≡ w + W .place a → x ≡ at ws i → vs ≡ set ws i (W .put a x l) → vs ≡ setLinkAt W a ws w l
+pub setLink-by : (W : Width) (a : Side) (ws vs : List ℕ) (w l i x : ℕ)
+    → i ≡ w + W .place a → x ≡ at ws i → vs ≡ set ws i (W .put a x l) → vs ≡ setLinkAt W a ws w l
 unfolding setLinkAt
 setLink-by W a ws vs w l i x e f g = rw (g, f, e)
 
@@ -124,7 +125,9 @@ module _ (W : Width) (a : Side) (ws : List ℕ) (l v : ℕ) where
   pub node-store-other : (ss : List ℕ) (m : ℕ) → m ≢ l → nodeLink W a (setSentinel ss l v) (setChunkLink W a ws l v) m ≡ nodeLink W a ss ws m
   node-store-other ss m d =
       by-cases 6 l
-      (λ h. by-cases 6 m (λ k. rw (le-ltb l 6 h, le-ltb m 6 k) (link-setLink-other W a ws (l - 6) v (m - 6) (omega arith))) (λ k. rw (le-ltb l 6 h, lt-ltb m 6 k)))
+      (λ h. by-cases 6 m
+      (λ k. rw (le-ltb l 6 h, le-ltb m 6 k) (link-setLink-other W a ws (l - 6) v (m - 6) (omega arith)))
+      (λ k. rw (le-ltb l 6 h, lt-ltb m 6 k)))
       (λ h. by-cases 6 m (λ k. rw (lt-ltb l 6 h, le-ltb m 6 k)) (λ k. rw (lt-ltb l 6 h, lt-ltb m 6 k) (getD-set-other ss l m v 0 d)))
 
 -- a store into any word but the one that the node's link stands in keeps the link
@@ -133,14 +136,16 @@ node-set W a ss ws l i x d = by-cases 6 l (λ h. rw (le-ltb l 6 h) (link-set W a
 
 module _ {W : Width} (L : Lawful W) (a : Side) (ws : List ℕ) (l v : ℕ) (fits : v < W .limit) where
   -- the node's link that was stored is read
-  pub node-store-same : (ss : List ℕ) → (l < 6 → l < length ss) → (6 ≤ l → l - 6 + W .place a < length ws) → nodeLink W a (setSentinel ss l v) (setChunkLink W a ws l v) l ≡ v
+  pub node-store-same : (ss : List ℕ) → (l < 6 → l < length ss) → (6 ≤ l → l - 6 + W .place a < length ws)
+      → nodeLink W a (setSentinel ss l v) (setChunkLink W a ws l v) l ≡ v
   node-store-same ss sentinel chunk =
       by-cases 6 l
       (λ h. rw (le-ltb l 6 h) (link-setLink-same L a ws (l - 6) v fits (chunk h)))
       (λ h. rw (lt-ltb l 6 h) (getD-set-same ss l v 0 (sentinel h)))
 
   -- every node's link of the other side is kept, if chunks stand at even words
-  pub node-store-side : (ss : List ℕ) (m : ℕ) → (6 ≤ l → l % 2 ≡ 0) → (6 ≤ m → m % 2 ≡ 0) → nodeLink W (other a) ss (setChunkLink W a ws l v) m ≡ nodeLink W (other a) ss ws m
+  pub node-store-side : (ss : List ℕ) (m : ℕ) → (6 ≤ l → l % 2 ≡ 0) → (6 ≤ m → m % 2 ≡ 0)
+      → nodeLink W (other a) ss (setChunkLink W a ws l v) m ≡ nodeLink W (other a) ss ws m
   node-store-side ss m e f =
       by-cases 6 l
       (λ h. by-cases 6 m

@@ -57,9 +57,14 @@ same-length c = search needs
 
 returns-3 : tie.Need-returns-3
 returns-3 c =
-    same-outcome _ _ _ (c .in-numbers3 .ensures) ∙ c .before .before .before .make .ensures
-    ∙ over-made (seen (c .before .before .before .before .before .before .before .before .before .args .rec) _) _ (c .before .before .before .before .before .before .before .if1 .left)
-    (sym (c .before .before .before .before .before .before .accepted .ensures) ∙ not-false _ (c .before .before .before .before .before .if2 .left))
+    let at-make = c .before .before .before in
+    let at-if2 = at-make .before .before in
+    let at-accepted = at-if2 .before in
+    let at-if1 = at-accepted .before in
+    let entry = at-if1 .before .before in
+    same-outcome _ _ _ (c .in-numbers3 .ensures) ∙ at-make .make .ensures
+    ∙ over-made (seen (entry .args .rec) _) _ (at-if1 .if1 .left)
+    (sym (at-accepted .accepted .ensures) ∙ not-false _ (at-if2 .if2 .left))
 
 pub make-over-spec : {M : Type 1} → statement M
 make-over-spec =

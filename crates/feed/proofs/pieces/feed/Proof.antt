@@ -13,7 +13,8 @@ use Rattle.feed.proofs.pieces.feed.Tie as tie
 
 abbrev Inv-loop : tie.InvT-loop
 Inv-loop memory₀ input out₀ kind fed₀ memory out fed =
-    (stands fed memory out ≡ steps (placesOf kind) (standing (fed₀ .trace) memory₀ []) (take (fed .taken) input)) × (fed .taken ≤ length input) × (fed .filled ≤ length out)
+    (stands fed memory out ≡ steps (placesOf kind) (standing (fed₀ .trace) memory₀ []) (take (fed .taken) input))
+    × (fed .taken ≤ length input) × (fed .filled ≤ length out)
     × (length memory ≡ length memory₀) × (length out ≡ length out₀) × (fed .filled ≤ 19 * fed .taken)
 
 abbrev μ-loop : tie.MeasureT-loop

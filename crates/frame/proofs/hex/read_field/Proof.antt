@@ -33,7 +33,9 @@ returns c =
     ∙ field-bad _ _ _ (c .before .before .before .loop-test .taken) _ (c .before .digit-of .ensures) (c .if1 .taken))
 
 returns-2 : tie.Need-returns-2 Inv-loop μ-loop
-returns-2 c = sym (c .before .before .before .before .before .loop .inv .0 ∙ field-over _ _ _ (c .before .before .before .before .loop-test .taken) (c .if2 .taken))
+returns-2 c =
+    let at-loop-test = c .before .before .before .before in
+    sym (at-loop-test .before .loop .inv .0 ∙ field-over _ _ _ (at-loop-test .loop-test .taken) (c .if2 .taken))
 
 mul-number : tie.Need-mul-number Inv-loop μ-loop
 mul-number c = search needs

@@ -5,8 +5,9 @@ use Rattle.map.proofs.Reader.Laid.{ReadAs, told-bad, told-rows, into-no
 use Rattle.map.proofs.read.read_lines.Statement.{statement}
 use Rattle.map.proofs.read.read_lines.Tie as tie
 
--- all lines are good, so many
-all : (c : tie.After-checked2) → ReadAs (c .before .before .before .before .before .before .args .places) (c .before .before .before .before .before .before .args .lines .now) (c .checked2 .given .0 .0)
+-- all lines are good, and how many they are
+all : (c : tie.After-checked2)
+    → let entry = c .before .before .before .before .before .before in ReadAs (entry .args .places) (entry .args .lines .now) (c .checked2 .given .0 .0)
 all c =
     let some = c .before .before .before in
     told-rows _ (some .before .before .before .args .lines .now) (some .if1 .left) _ (sym (c .checked2 .given .1) ∙ c .before .before .check-lines .ensures)

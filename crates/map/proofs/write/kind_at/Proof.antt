@@ -26,15 +26,15 @@ returns-2 : tie.Need-returns-2
 returns-2 c =
     let used = c .before .before in
     let start = used .before .before .before in
-    let kind = kind-cached (start .args .heap .now) (numbers (start .args .cached)) (start .args .e) _ _ (used .before .is-this-free .ensures) (used .if1 .left) in
-    kind (c .before .holds .ensures) (c .if2 .taken)
+    kind-cached (start .args .heap .now) (numbers (start .args .cached)) (start .args .e) _ _
+    (used .before .is-this-free .ensures) (used .if1 .left) (c .before .holds .ensures) (c .if2 .taken)
 
 returns-3 : tie.Need-returns-3
 returns-3 c =
     let used = c .before .before in
     let start = used .before .before .before in
-    let kind = kind-live (start .args .heap .now) (numbers (start .args .cached)) (start .args .e) _ _ (used .before .is-this-free .ensures) (used .if1 .left) in
-    kind (c .before .holds .ensures) (c .if2 .left)
+    kind-live (start .args .heap .now) (numbers (start .args .cached)) (start .args .e) _ _
+    (used .before .is-this-free .ensures) (used .if1 .left) (c .before .holds .ensures) (c .if2 .left)
 
 pub kind-at-spec : {M : Type 1} → statement M
 kind-at-spec = tie.close (tie.spec cast-t7 is-this-free-requires returns add-holds holds-requires returns-2 returns-3)

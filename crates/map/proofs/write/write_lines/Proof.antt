@@ -22,7 +22,8 @@ use Rattle.map.proofs.write.write_lines.Tie as tie
 
 abbrev Inv-loop : tie.InvT-loop
 Inv-loop heap cached room₀ fuel₀ e₀ i₀ room fuel e i =
-    (over (linesOf (mapOf (cachedOf (numbers cached)) 0 (chunksIn heap))) room₀ ≡ overFrom i (linesOf (mapOf (cachedOf (numbers cached)) e (tile (at heap) fuel e))) room)
+    (over (linesOf (mapOf (cachedOf (numbers cached)) 0 (chunksIn heap))) room₀
+    ≡ overFrom i (linesOf (mapOf (cachedOf (numbers cached)) e (tile (at heap) fuel e))) room)
     × (e + total (tile (at heap) fuel e) ≤ 262112) × (i + 19 * length (tile (at heap) fuel e) ≤ length room) × (length room ≡ length room₀)
 
 abbrev μ-loop : tie.MeasureT-loop

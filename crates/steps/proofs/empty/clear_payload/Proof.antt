@@ -63,7 +63,9 @@ same-length : tie.Need-same-length Inv-loop μ-loop
 same-length c = c .before .loop .inv .1
 
 returns-2 : tie.Need-returns-2 Inv-loop μ-loop
-returns-2 c = sym (c .before .loop .inv .0 ∙ cleared-end _ _ _ _ _ (omega (arith, c .before .loop .inv .1, c .before .loop .inv .2)) (omega (arith, c .before .loop .inv .1, c .before .loop .inv .3)) (c .loop-test .left))
+returns-2 c =
+    let kept = c .before .loop .inv in
+    sym (kept .0 ∙ cleared-end _ _ _ _ _ (omega (arith, kept .1, kept .2)) (omega (arith, kept .1, kept .3)) (c .loop-test .left))
 
 pub clear-payload-spec : {M : Type 1} → statement M
 clear-payload-spec =

@@ -18,7 +18,12 @@ word-requires : tie.Need-word-requires
 word-requires c κs = search needs
 
 returns-2 : tie.Need-returns-2
-returns-2 c = left-some (c .before .before .before .before .before .args .heap .now) _ _ _ _ (c .before .before .before .is-left-free .ensures) (not-false _ (c .before .before .if1 .left)) (c .before .hdr-to-left-ftr .ensures) (c .word .ensures)
+returns-2 c =
+    let at-if1 = c .before .before in
+    let at-is-left-free = at-if1 .before in
+    let entry = at-is-left-free .before .before in
+    left-some (entry .args .heap .now) _ _ _ _ (at-is-left-free .is-left-free .ensures) (not-false _ (at-if1 .if1 .left))
+    (c .before .hdr-to-left-ftr .ensures) (c .word .ensures)
 
 pub left-free-spec : {M : Type 1} → statement M
 left-free-spec =

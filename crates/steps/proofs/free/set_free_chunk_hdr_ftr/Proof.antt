@@ -1,4 +1,4 @@
--- `steps::free::set_free_chunk_hdr_ftr` meets its contract: two stores, and the footer's place does not wrap.
+-- `steps::free::set_free_chunk_hdr_ftr` meets its contract: two stores.
 use borrow.Author.Needs.{needs}
 use Rattle.steps.proofs.Neighbours.{freed-by}
 use Rattle.steps.proofs.free.set_free_chunk_hdr_ftr.Statement.{statement}
@@ -17,7 +17,11 @@ same-length : tie.Need-same-length
 same-length c = search needs
 
 returns : tie.Need-returns
-returns c = freed-by _ _ _ _ _ _ (c .before .before .before .before .before .before .before .before .before .before .pre) (c .before .before .before .before .before .before .before .before .before .before .fits .size .fits) (c .before .before .before .before .before .before .before .set-hdr .ensures) (c .before .before .before .before .hdr-to-ftr .ensures) (c .before .before .set-ftr-chunk-size .ensures)
+returns c =
+    let at-set-ftr-chunk-size = c .before .before in
+    let at-hdr-to-ftr = at-set-ftr-chunk-size .before .before in
+    let at-set-hdr = at-hdr-to-ftr .before .before .before in
+    freed-by _ _ _ _ _ _ (at-set-hdr .set-hdr .ensures) (at-hdr-to-ftr .hdr-to-ftr .ensures) (at-set-ftr-chunk-size .set-ftr-chunk-size .ensures)
 
 pub set-free-chunk-hdr-ftr-spec : {M : Type 1} → statement M
 set-free-chunk-hdr-ftr-spec =

@@ -36,23 +36,37 @@ is-this-free-requires c κs = search needs
 
 returns-2 : tie.Need-returns-2 Inv-loop μ-loop
 returns-2 c =
+    let at-if2 = c .before .before in
+    let at-if1 = at-if2 .before in
+    let at-get-hdr-chunk-size = at-if1 .before in
+    let at-loop-test = at-get-hdr-chunk-size .before in
+    let at-loop = at-loop-test .before in
     sym
-    (c .before .before .before .before .before .before .loop .inv .0 ∙ used-here _ _ _ (c .before .before .before .before .get-hdr-chunk-size .ensures) _ _ true
+    (at-loop .loop .inv .0 ∙ used-here _ _ _ (at-get-hdr-chunk-size .get-hdr-chunk-size .ensures) _ _ true
     (sym (c .if3 .taken) ∙ c .before .is-this-free .ensures)
-    (c .before .before .before .before .before .loop-test .taken) (c .before .before .before .if1 .left) (c .before .before .if2 .taken))
+    (at-loop-test .loop-test .taken) (at-if1 .if1 .left) (at-if2 .if2 .taken))
 
 returns-3 : tie.Need-returns-3 Inv-loop μ-loop
 returns-3 c =
+    let at-if2 = c .before .before in
+    let at-if1 = at-if2 .before in
+    let at-get-hdr-chunk-size = at-if1 .before in
+    let at-loop-test = at-get-hdr-chunk-size .before in
+    let at-loop = at-loop-test .before in
     sym
-    (c .before .before .before .before .before .before .loop .inv .0 ∙ used-here _ _ _ (c .before .before .before .before .get-hdr-chunk-size .ensures) _ _ false
+    (at-loop .loop .inv .0 ∙ used-here _ _ _ (at-get-hdr-chunk-size .get-hdr-chunk-size .ensures) _ _ false
     (sym (c .if3 .left) ∙ c .before .is-this-free .ensures)
-    (c .before .before .before .before .before .loop-test .taken) (c .before .before .before .if1 .left) (c .before .before .if2 .taken))
+    (at-loop-test .loop-test .taken) (at-if1 .if1 .left) (at-if2 .if2 .taken))
 
 returns-4 : tie.Need-returns-4 Inv-loop μ-loop
 returns-4 c =
+    let at-if1 = c .before .before in
+    let at-get-hdr-chunk-size = at-if1 .before in
+    let at-loop-test = at-get-hdr-chunk-size .before in
+    let at-loop = at-loop-test .before in
     sym
-    (c .before .before .before .before .before .loop .inv .0 ∙ used-inside _ _ _ (c .before .before .before .get-hdr-chunk-size .ensures) _ _
-    (c .before .before .before .before .loop-test .taken) (c .before .before .if1 .left) (c .before .if2 .left) (c .if4 .taken))
+    (at-loop .loop .inv .0 ∙ used-inside _ _ _ (at-get-hdr-chunk-size .get-hdr-chunk-size .ensures) _ _
+    (at-loop-test .loop-test .taken) (at-if1 .if1 .left) (c .before .if2 .left) (c .if4 .taken))
 
 cast-e : tie.Need-cast-e Inv-loop μ-loop
 cast-e c = search needs

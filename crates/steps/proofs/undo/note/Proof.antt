@@ -1,13 +1,17 @@
--- `steps::undo::note` meets its contract: past the end there is nothing to put back (`note-past`), else the pair is the last (`note-one`).
+-- `steps::undo::note` meets its contract: past the end there is nothing to put back (`note-past`), a full log has no room (`note-full`), else the pair is
+-- the last (`note-named`).
 use native.Mathlib.Omega.{arith}
 use lib.ListN.{length, length-set}
 use borrow.Author.Needs.{needs}
-use Rattle.steps.proofs.Undone.{note-past, note-one}
+use Rattle.steps.proofs.Undone.{note-past, note-full, note-named}
 use Rattle.steps.proofs.undo.note.Statement.{statement}
 use Rattle.steps.proofs.undo.note.Tie as tie
 
 returns : tie.Need-returns
-returns c = note-past _ _ _ _ (c .if1 .taken)
+returns c = λ room. note-past _ _ _ _ (c .if1 .taken)
+
+returns-2 : tie.Need-returns-2
+returns-2 c = note-full _ _ _ _ _ _ (c .if2 .taken) (omega arith)
 
 cast-log : tie.Need-cast-log
 cast-log c = search needs
@@ -45,14 +49,15 @@ add-result c = search needs
 same-length : tie.Need-same-length
 same-length c = search needs
 
-returns-2 : tie.Need-returns-2
-returns-2 c = note-one _ _ _ _ (omega arith)
+returns-3 : tie.Need-returns-3
+returns-3 c = note-named _ _ _ _ (c .before .before .if1 .left)
 
 pub note-spec : {M : Type 1} → statement M
 note-spec =
     tie.close
     (tie.spec
     returns
+    returns-2
     cast-log
     mul-log
     mul-log-2
@@ -65,4 +70,4 @@ note-spec =
     slice-write-log-2
     add-result
     same-length
-    returns-2)
+    returns-3)

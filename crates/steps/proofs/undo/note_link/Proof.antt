@@ -22,7 +22,7 @@ returns : tie.Need-returns
 returns c =
     let at-note = c .before .before in
     let at-link-to-hdr = at-note .before .before .before in
-    note-at _ _ _ _ _ _ _ (at-note .note .ensures) (ap (λ (w : ℕ). w + 1) (at-link-to-hdr .link-to-hdr .ensures))
+    λ room. note-at _ _ _ _ _ _ _ (at-note .note .ensures room) (ap (λ (w : ℕ). w + 1) (at-link-to-hdr .link-to-hdr .ensures))
 
 pub note-link-spec : {M : Type 1} → statement M
 note-link-spec = tie.close (tie.spec link-to-hdr-requires add-t8 note-requires same-length returns)

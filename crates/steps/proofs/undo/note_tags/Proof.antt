@@ -29,9 +29,10 @@ returns c =
     let at-note2 = at-hdr-to-right-hdr .before .before .before .before in
     let at-hdr-to-ftr = at-note2 .before in
     let at-note = at-hdr-to-ftr .before .before .before .before in
-    let entry = at-note .before .before .before .before in
-    notes-tags _ _ _ _ _ _ _ _ _ _ _ _ _ (entry .pre .0) (entry .fits .size .fits) (at-note .note .ensures) (at-hdr-to-ftr .hdr-to-ftr .ensures)
-    (at-note2 .note2 .ensures) (at-hdr-to-right-hdr .hdr-to-right-hdr .ensures) (at-note3 .note3 .ensures)
+    let at-fits = at-note .before .before .before .before in
+    λ low. notes-tags _ _ _ _ _ _ _ _ _ _ _ _ _ low (at-fits .fits .size .fits) (at-note .note .kept .1 .0) (at-note2 .note2 .kept .1 .0)
+    (at-note .note .ensures) (at-hdr-to-ftr .hdr-to-ftr .ensures) (at-note2 .note2 .ensures) (at-hdr-to-right-hdr .hdr-to-right-hdr .ensures)
+    (at-note3 .note3 .ensures)
 
 pub note-tags-spec : {M : Type 1} → statement M
 note-tags-spec =

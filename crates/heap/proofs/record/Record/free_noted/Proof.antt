@@ -53,6 +53,7 @@ returns c =
     let class = tags .before .before .before .before in
     let entry = class .before .before .before in
     free-noted-by (entry .args .t1) (listed .free-listed .result) _ _ _ _ _ _ _ _ _ _ _ _ _ _ (class .chunk-size-to-list-index .ensures) refl
+    (omega (arith, entry .pre .0)) (entry .pre .1) (tags .note-tags .kept .1 .0) (first .note-link .kept .1 .0)
     (tags .note-tags .ensures) (first .note-link .ensures) (own .note .ensures) (listed .free-listed .ensures)
 
 pub free-noted-spec : {M : Type 1} → statement M

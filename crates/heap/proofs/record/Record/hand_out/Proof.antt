@@ -25,9 +25,11 @@ same-length c = search needs
 
 returns-3 : tie.Need-returns-3
 returns-3 c =
-    let start = c .before .before .before .before .before .before in
-    let tested = hand-damaged (placesOf (start .args .kind)) (start .args .self) (start .args .heap .now) _ _ in
-    tested (c .before .before .before .before .if1 .left) (c .before .before .before .if2 .left) (c .before .audit .ensures) (not-true _ (c .if3 .taken))
+    let at-if2 = c .before .before .before in
+    let at-if1 = at-if2 .before in
+    let start = at-if1 .before .before in
+    hand-damaged (placesOf (start .args .kind)) (start .args .self) (start .args .heap .now) _ _ (at-if1 .if1 .left) (at-if2 .if2 .left)
+    (c .before .audit .ensures) (not-true _ (c .if3 .taken))
 
 rounded-size-requires : tie.Need-rounded-size-requires
 rounded-size-requires c κs = search needs
@@ -38,18 +40,23 @@ cast-z c = search needs
 serve-requires : tie.Need-serve-requires
 serve-requires c κs =
     let start = c .before .before .before .before .before .before .before .before in
-    let tested = rounded-served (start .args .kind) (start .args .self) (start .args .heap .now) _ _ _ in
-    tested (c .before .before .before .audit .ensures) (not-false _ (c .before .before .if3 .left)) (c .before .rounded-size .ensures)
+    rounded-served (start .args .kind) (start .args .self) (start .args .heap .now) _ _ _ (c .before .before .before .audit .ensures)
+    (not-false _ (c .before .before .if3 .left)) (c .before .rounded-size .ensures)
 
 same-length-2 : tie.Need-same-length-2
 same-length-2 c = search needs
 
 returns-4 : tie.Need-returns-4
 returns-4 c =
-    let start = c .before .before .before .before .before .before .before .before .before .before .before in
-    let tested = hand-served (placesOf (start .args .kind)) (start .args .self) (start .args .heap .now) _ _ _ _ _ in
-    let passed = tested (c .before .before .before .before .before .before .before .before .before .if1 .left) (c .before .before .before .before .before .before .before .before .if2 .left) (c .before .before .before .before .before .before .audit .ensures) (not-false _ (c .before .before .before .before .before .if3 .left)) in
-    passed (c .before .before .before .before .rounded-size .ensures) refl (c .before .before .serve .ensures)
+    let at-serve = c .before .before in
+    let at-rounded-size = at-serve .before .before in
+    let at-if3 = at-rounded-size .before in
+    let at-audit = at-if3 .before in
+    let at-if2 = at-audit .before .before in
+    let at-if1 = at-if2 .before in
+    let start = at-if1 .before .before in
+    hand-served (placesOf (start .args .kind)) (start .args .self) (start .args .heap .now) _ _ _ _ _ (at-if1 .if1 .left) (at-if2 .if2 .left)
+    (at-audit .audit .ensures) (not-false _ (at-if3 .if3 .left)) (at-rounded-size .rounded-size .ensures) refl (at-serve .serve .ensures)
 
 pub hand-out-spec : {M : Type 1} → statement M
 hand-out-spec =

@@ -30,8 +30,16 @@ same-length c = search needs
 
 returns : tie.Need-returns
 returns c =
-    link-by (c .before .before .before .before .before .before .before .before .before .before .before .before .before .before .before .before .args .t1) _ _ (c .before .before .before .before .before .before .before .before .before .before .before .before .before .before .before .before .args .heap .now) _ _ _ _ _ _ (c .before .before .before .before .before .before .before .before .before .before .before .before .before .before .before .before .pre .0) (c .before .before .before .before .before .before .before .before .before .before .before .before .before .before .before .before .pre .1) (next-sentinel (c .before .before .before .before .before .before .before .before .before .before .before .before .before .before .before .before .args .t1) (c .before .before .before .before .before .before .before .before .before .before .before .before .before .before .before .before .args .heap .now) (c .before .before .before .before .before .before .before .before .before .before .before .before .before .before .before .before .args .class) (c .before .before .before .before .before .before .before .before .before .before .before .before .before .before .before .before .pre .0)) (c .before .before .before .before .before .before .before .before .before .before .before .before .before .set-sentinel-next .ensures)
-    (c .before .before .before .before .before .before .before .before .before .before .before .before .set-sentinel-prev .ensures) (c .before .before .before .before .before .before .before .before .before .before .set-chunk-prev .ensures) (c .before .before .before .before .before .before .set-next-field .ensures) (c .before .before .set-prev-field .ensures)
+    let at-set-prev-field = c .before .before in
+    let at-set-next-field = at-set-prev-field .before .before .before .before in
+    let at-set-chunk-prev = at-set-next-field .before .before .before .before in
+    let at-set-sentinel-prev = at-set-chunk-prev .before .before in
+    let at-set-sentinel-next = at-set-sentinel-prev .before in
+    let entry = at-set-sentinel-next .before .before .before in
+    link-by (entry .args .t1) _ _ (entry .args .heap .now) _ _ _ _ _ _ (entry .pre .0) (entry .pre .1)
+    (next-sentinel (entry .args .t1) (entry .args .heap .now) (entry .args .class) (entry .pre .0)) (at-set-sentinel-next .set-sentinel-next .ensures)
+    (at-set-sentinel-prev .set-sentinel-prev .ensures) (at-set-chunk-prev .set-chunk-prev .ensures) (at-set-next-field .set-next-field .ensures)
+    (at-set-prev-field .set-prev-field .ensures)
 
 pub link-chunk-spec : {M : Type 1} → statement M
 link-chunk-spec =

@@ -18,16 +18,20 @@ holds-requires c κs = search needs
 
 returns-2 : tie.Need-returns-2
 returns-2 c =
-    let start = c .before .before .before .before .before in
-    live-cached (start .args .self) (start .args .heap .now) (start .args .p) _ (c .before .before .before .if1 .left) (c .before .holds .ensures) (c .if2 .taken)
+    let at-if1 = c .before .before .before in
+    let start = at-if1 .before .before in
+    live-cached (start .args .self) (start .args .heap .now) (start .args .p) _ (at-if1 .if1 .left) (c .before .holds .ensures) (c .if2 .taken)
 
 used-length-requires : tie.Need-used-length-requires
 used-length-requires c κs = search needs
 
 returns-3 : tie.Need-returns-3
 returns-3 c =
-    let start = c .before .before .before .before .before .before in
-    live-other (start .args .self) (start .args .heap .now) (start .args .p) _ _ (c .before .before .before .before .if1 .left) (c .before .before .holds .ensures) (c .before .if2 .left) (c .used-length .ensures)
+    let at-holds = c .before .before in
+    let at-if1 = at-holds .before .before in
+    let start = at-if1 .before .before in
+    live-other (start .args .self) (start .args .heap .now) (start .args .p) _ _ (at-if1 .if1 .left) (at-holds .holds .ensures) (c .before .if2 .left)
+    (c .used-length .ensures)
 
 pub live-length-spec : {M : Type 1} → statement M
 live-length-spec =

@@ -21,7 +21,10 @@ empty-requires-3 : tie.Need-empty-requires-3
 empty-requires-3 c κs = search needs
 
 returns-3 : tie.Need-returns-3
-returns-3 c = rw (c .empty3 .ensures) (make-even _ (c .before .before .before .if1 .left) (c .before .before .if2 .left) (c .before .if3 .taken))
+returns-3 c =
+    let at-if2 = c .before .before in
+    let at-if1 = at-if2 .before in
+    rw (c .empty3 .ensures) (make-even _ (at-if1 .if1 .left) (at-if2 .if2 .left) (c .before .if3 .taken))
 
 cast-of-words : tie.Need-cast-of-words
 cast-of-words c = search needs
@@ -36,7 +39,15 @@ same-length : tie.Need-same-length
 same-length c = search needs
 
 returns-4 : tie.Need-returns-4
-returns-4 c = make-done (c .before .before .before .before .of-words .result) (c .before .before .one-chunk .result) (c .before .before .before .before .before .before .before .before .before .args .heap .now) _ _ refl (c .before .before .before .before .before .before .before .if1 .left) (c .before .before .before .before .before .before .if2 .left) (c .before .before .before .before .before .if3 .left) (c .before .before .before .before .of-words .ensures) (c .before .before .one-chunk .ensures)
+returns-4 c =
+    let at-one-chunk = c .before .before in
+    let at-of-words = at-one-chunk .before .before in
+    let at-if3 = at-of-words .before in
+    let at-if2 = at-if3 .before in
+    let at-if1 = at-if2 .before in
+    let entry = at-if1 .before .before in
+    make-done (at-of-words .of-words .result) (at-one-chunk .one-chunk .result) (entry .args .heap .now) _ _ refl (at-if1 .if1 .left)
+    (at-if2 .if2 .left) (at-if3 .if3 .left) (at-of-words .of-words .ensures) (at-one-chunk .one-chunk .ensures)
 
 pub make-spec : {M : Type 1} → statement M
 make-spec =

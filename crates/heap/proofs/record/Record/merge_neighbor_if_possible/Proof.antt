@@ -27,20 +27,33 @@ same-length : tie.Need-same-length
 same-length c = search needs
 
 returns-2 : tie.Need-returns-2
-returns-2 c = c .before .before .unlink-chunk .ensures ∙ merge-left _ _ _ _ _ _ (c .before .before .before .before .before .merge-case .ensures) (c .before .before .before .before .match .keys2)
+returns-2 c =
+    let at-unlink-chunk = c .before .before in
+    let at-match = at-unlink-chunk .before .before in
+    let at-merge-case = at-match .before in
+    at-unlink-chunk .unlink-chunk .ensures ∙ merge-left _ _ _ _ _ _ (at-merge-case .merge-case .ensures) (at-match .match .keys2)
 
 same-length-2 : tie.Need-same-length-2
 same-length-2 c = search needs
 
 returns-3 : tie.Need-returns-3
-returns-3 c = c .before .before .unlink-chunk2 .ensures ∙ merge-right _ _ _ _ _ _ (c .before .before .before .before .before .merge-case .ensures) (c .before .before .before .before .match .keys3)
+returns-3 c =
+    let at-unlink-chunk2 = c .before .before in
+    let at-match = at-unlink-chunk2 .before .before in
+    let at-merge-case = at-match .before in
+    at-unlink-chunk2 .unlink-chunk2 .ensures ∙ merge-right _ _ _ _ _ _ (at-merge-case .merge-case .ensures) (at-match .match .keys3)
 
 same-length-3 : tie.Need-same-length-3
 same-length-3 c = search needs
 
 returns-4 : tie.Need-returns-4
 returns-4 c =
-    merge-both _ _ _ _ _ _ _ _ (c .before .before .before .before .before .before .unlink-chunk3 .ensures) (c .before .before .unlink-chunk4 .ensures) (c .before .before .before .before .before .before .before .before .before .merge-case .ensures) (c .before .before .before .before .before .before .before .before .match .rest .0 .0 .1) (c .before .before .before .before .before .before .before .before .match .rest .0 .1) (c .before .before .before .before .before .before .before .before .match .rest .1)
+    let at-unlink-chunk4 = c .before .before in
+    let at-unlink-chunk3 = at-unlink-chunk4 .before .before .before .before in
+    let at-match = at-unlink-chunk3 .before .before in
+    let at-merge-case = at-match .before in
+    merge-both _ _ _ _ _ _ _ _ (at-unlink-chunk3 .unlink-chunk3 .ensures) (at-unlink-chunk4 .unlink-chunk4 .ensures)
+    (at-merge-case .merge-case .ensures) (at-match .match .rest .0 .0 .1) (at-match .match .rest .0 .1) (at-match .match .rest .1)
 
 pub merge-neighbor-if-possible-spec : {M : Type 1} → statement M
 merge-neighbor-if-possible-spec =

@@ -29,14 +29,23 @@ chunk-size-to-list-index-requires c κs = search needs
 
 link-chunk-requires : tie.Need-link-chunk-requires
 link-chunk-requires c κs =
-    let class = class-below (4 * (length (c .before .before .before .before .before .before .before .before .before .before .before .args .heap .now) - 1)) in
+    let entry = c .before .before .before .before .before .before .before .before .before .before .before in
+    let class = class-below (4 * (length (entry .args .heap .now) - 1)) in
     (omega (arith, c .before .chunk-size-to-list-index .ensures), omega arith)
 
 same-length : tie.Need-same-length
 same-length c = search needs
 
 returns : tie.Need-returns
-returns c = one-chunk-by (c .before .before .before .before .before .before .before .before .before .before .before .before .before .before .args .self) (c .before .before .link-chunk .result) _ _ _ _ _ _ _ _ (omega (arith, c .before .before .before .before .before .before .before .before .before .before .before .before .before .before .pre)) refl refl (c .before .before .before .before .before .before .before .before .before .before .before .set-free-chunk-hdr-ftr .ensures) (c .before .before .before .before .before .before .before .put .ensures) (c .before .before .before .before .chunk-size-to-list-index .ensures) (c .before .before .link-chunk .ensures)
+returns c =
+    let at-link-chunk = c .before .before in
+    let at-chunk-size-to-list-index = at-link-chunk .before .before in
+    let at-put = at-chunk-size-to-list-index .before .before .before in
+    let at-set-free-chunk-hdr-ftr = at-put .before .before .before .before in
+    let entry = at-set-free-chunk-hdr-ftr .before .before .before in
+    one-chunk-by (entry .args .self) (at-link-chunk .link-chunk .result) _ _ _ _ _ _ _ _ (omega (arith, entry .pre)) (entry .pre .1) refl refl
+    (at-set-free-chunk-hdr-ftr .set-free-chunk-hdr-ftr .ensures) (at-put .put .ensures)
+    (at-chunk-size-to-list-index .chunk-size-to-list-index .ensures) (at-link-chunk .link-chunk .ensures)
 
 pub one-chunk-spec : {M : Type 1} → statement M
 one-chunk-spec =

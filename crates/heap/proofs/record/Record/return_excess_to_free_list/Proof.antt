@@ -21,8 +21,14 @@ same-length c = search needs
 
 returns : tie.Need-returns
 returns c =
-    let room : c .before .before .before .before .before .before .before .before .args .hdr .0 < 2 ^ 32 = omega (arith, c .before .before .before .before .before .before .before .before .pre) in
-    excess-whole (c .before .before .before .before .before .before .before .before .args .self) _ _ _ _ _ _ _ room (c .before .before .before .before .before .before .before .before .fits .total .fits) (c .before .before .before .before .before .before .less .ensures) (c .before .before .before .before .before .if1 .taken) (c .before .before .before .hdr-to-right-hdr .ensures) (c .before .before .set-left-allocated .ensures)
+    let at-set-left-allocated = c .before .before in
+    let at-hdr-to-right-hdr = at-set-left-allocated .before in
+    let at-if1 = at-hdr-to-right-hdr .before .before in
+    let at-less = at-if1 .before in
+    let entry = at-less .before .before in
+    let room : entry .args .hdr .0 < 2 ^ 32 = omega (arith, entry .pre) in
+    excess-whole (entry .args .self) _ _ _ _ _ _ _ room (entry .fits .total .fits) (at-less .less .ensures) (at-if1 .if1 .taken)
+    (at-hdr-to-right-hdr .hdr-to-right-hdr .ensures) (at-set-left-allocated .set-left-allocated .ensures)
 
 hdr-to-right-hdr-requires-2 : tie.Need-hdr-to-right-hdr-requires-2
 hdr-to-right-hdr-requires-2 c κs = search needs
@@ -38,15 +44,35 @@ hdr-to-link-requires c κs = search needs
 
 link-chunk-requires : tie.Need-link-chunk-requires
 link-chunk-requires c κs =
-    let class = class-below (c .before .before .before .before .before .before .before .before .before .less .result) in
-    (omega (arith, c .before .before .chunk-size-to-list-index .ensures), omega (arith, c .before .before .before .before .before .before .before .before .before .before .before .pre, c .hdr-to-link .ensures, c .before .before .before .before .before .before .before .hdr-to-right-hdr2 .ensures, c .before .before .before .before .before .before .before .before .if1 .left, c .before .before .before .before .before .before .before .before .before .less .ensures, c .before .before .before .before .before .before .before .before .before .before .before .fits .size .fits))
+    let at-chunk-size-to-list-index = c .before .before in
+    let at-hdr-to-right-hdr2 = at-chunk-size-to-list-index .before .before .before .before .before in
+    let at-if1 = at-hdr-to-right-hdr2 .before in
+    let at-less = at-if1 .before in
+    let entry = at-less .before .before in
+    let class = class-below (at-less .less .result) in
+    let listed = at-chunk-size-to-list-index .chunk-size-to-list-index .ensures in
+    let rest = at-hdr-to-right-hdr2 .hdr-to-right-hdr2 .ensures in (
+      omega (arith, listed),
+      omega (arith, entry .pre, c .hdr-to-link .ensures, rest, at-if1 .if1 .left, at-less .less .ensures, entry .fits .size .fits),
+    )
 
 same-length-2 : tie.Need-same-length-2
 same-length-2 c = search needs
 
 returns-2 : tie.Need-returns-2
-returns-2 c = excess-cut (c .before .before .before .before .before .before .before .before .before .before .before .before .before .before .args .self) (c .before .before .link-chunk .result) _ _ _ _ _ _ _ _ _ _ (c .before .before .before .before .before .before .before .before .before .before .before .before .before .before .pre) (c .before .before .before .before .before .before .before .before .before .before .before .before .before .before .fits .size .fits) (c .before .before .before .before .before .before .before .before .before .before .before .before .less .ensures) (c .before .before .before .before .before .before .before .before .before .before .before .if1 .left) (c .before .before .before .before .before .before .before .before .before .before .hdr-to-right-hdr2 .ensures) (c .before .before .before .before .before .before .before .before .set-free-chunk-hdr-ftr .ensures)
-    (c .before .before .before .before .before .chunk-size-to-list-index .ensures) (c .before .before .before .hdr-to-link .ensures) (c .before .before .link-chunk .ensures)
+returns-2 c =
+    let at-link-chunk = c .before .before in
+    let at-hdr-to-link = at-link-chunk .before in
+    let at-chunk-size-to-list-index = at-hdr-to-link .before .before in
+    let at-set-free-chunk-hdr-ftr = at-chunk-size-to-list-index .before .before .before in
+    let at-hdr-to-right-hdr2 = at-set-free-chunk-hdr-ftr .before .before in
+    let at-if1 = at-hdr-to-right-hdr2 .before in
+    let at-less = at-if1 .before in
+    let entry = at-less .before .before in
+    excess-cut (entry .args .self) (at-link-chunk .link-chunk .result) _ _ _ _ _ _ _ _ _ _ (entry .pre) (entry .fits .size .fits)
+    (at-less .less .ensures) (at-if1 .if1 .left) (at-hdr-to-right-hdr2 .hdr-to-right-hdr2 .ensures)
+    (at-set-free-chunk-hdr-ftr .set-free-chunk-hdr-ftr .ensures)
+    (at-chunk-size-to-list-index .chunk-size-to-list-index .ensures) (at-hdr-to-link .hdr-to-link .ensures) (at-link-chunk .link-chunk .ensures)
 
 pub return-excess-to-free-list-spec : {M : Type 1} → statement M
 return-excess-to-free-list-spec =

@@ -29,16 +29,18 @@ clear-payload-requires c κs = search needs
 
 add-held : tie.Need-add-held
 add-held c =
-    let start = c .before .before .before .before .before .before .before .before .before .before .before .before .before .before in
-    let chosen = c .before .before .before .before .before .before .before .before .before .before in
-    let header = c .before .before .before .before .before .before .before in
     let size = c .before .before .before .before .before in
+    let header = size .before .before in
+    let at-if1 = header .before .before in
+    let chosen = at-if1 .before in
+    let start = chosen .before .before .before .before in
     let self = start .args .self in
     let held = start .good .0 .1 .1 .1 .1 .0 .1 .0 .1 in
     let four : FourPlaces (start .args .self) = sym (length-map (start .args .self .cached) _) ∙ held in
     let below : start .args .self .committed < 2 ^ 32 = omega (arith, start .good) in
-    let one = served-safe self (start .args .heap .now) (start .args .z) _ (start .pre) four (chosen .choice .ensures) in
-    let sum = one _ _ (c .before .before .before .before .before .before .before .before .before .if1 .taken) below (header .link-to-hdr .ensures) (size .get-hdr-chunk-size .ensures) in
+    let sum =
+    served-safe self (start .args .heap .now) (start .args .z) _ (start .pre) four (chosen .choice .ensures) _ _ (at-if1 .if1 .taken) below
+    (header .link-to-hdr .ensures) (size .get-hdr-chunk-size .ensures) in
     record { fits = omega (arith, sum) }
 
 left-out-requires : tie.Need-left-out-requires
@@ -55,18 +57,19 @@ same-length c = search needs
 
 returns : tie.Need-returns
 returns c =
-    let start = c .before .before .before .before .before .before .before .before .before .before .before .before .before .before .before .before .before in
-    let chosen = c .before .before .before .before .before .before .before .before .before .before .before .before .before in
-    let header = c .before .before .before .before .before .before .before .before .before .before in
-    let size = c .before .before .before .before .before .before .before .before in
-    let cleared = c .before .before .before .before .before .before in
     let others = c .before .before in
+    let cleared = others .before .before .before .before in
+    let size = cleared .before .before in
+    let header = size .before .before in
+    let at-if1 = header .before .before in
+    let chosen = at-if1 .before in
+    let start = chosen .before .before .before .before in
     let self = start .args .self in
     let held = start .good .0 .1 .1 .1 .1 .0 .1 .0 .1 in
     let four : FourPlaces (start .args .self) = sym (length-map (start .args .self .cached) _) ∙ held in
-    let one = served-cached self (start .args .heap .now) (start .args .z) _ (start .pre) four (chosen .choice .ensures) in
-    let from = one (c .with-cached .result) _ (others .left-out .result) _ _ _ _ (c .before .before .before .before .before .before .before .before .before .before .before .before .if1 .taken) (header .link-to-hdr .ensures) (size .get-hdr-chunk-size .ensures) in
-    from (cleared .clear-payload .ensures) refl (c .before .hdr-to-payload .ensures) (others .left-out .ensures) (c .with-cached .ensures)
+    served-cached self (start .args .heap .now) (start .args .z) _ (start .pre) four (chosen .choice .ensures) (c .with-cached .result) _
+    (others .left-out .result) _ _ _ _ (at-if1 .if1 .taken) (header .link-to-hdr .ensures) (size .get-hdr-chunk-size .ensures)
+    (cleared .clear-payload .ensures) refl (c .before .hdr-to-payload .ensures) (others .left-out .ensures) (c .with-cached .ensures)
 
 serve-listed-requires : tie.Need-serve-listed-requires
 serve-listed-requires c κs = search needs
@@ -81,8 +84,8 @@ returns-2 c =
     let self = start .args .self in
     let held = start .good .0 .1 .1 .1 .1 .0 .1 .0 .1 in
     let four : FourPlaces (start .args .self) = sym (length-map (start .args .self .cached) _) ∙ held in
-    let one = served-listed self (start .args .heap .now) (start .args .z) _ (start .pre) four (chosen .choice .ensures) in
-    one _ (c .before .before .before .before .if1 .left) (c .before .before .serve-listed .ensures)
+    served-listed self (start .args .heap .now) (start .args .z) _ (start .pre) four (chosen .choice .ensures) _
+    (c .before .before .before .before .if1 .left) (c .before .before .serve-listed .ensures)
 
 pub serve-spec : {M : Type 1} → statement M
 serve-spec =

@@ -18,13 +18,15 @@ with-cached-requires c κs = search needs
 
 returns : tie.Need-returns
 returns c =
-    let start = c .before .before .before .before .before .before in
-    let counted = c .before .before .before in
+    let at-if1 = c .before .before in
+    let counted = at-if1 .before in
+    let start = counted .before .before .before in
     let pre = start .pre in
     let held = start .good .0 .1 .1 .1 .1 .0 .1 .0 .1 in
     let four : FourPlaces (start .args .self) = sym (length-map (start .args .self .cached) _) ∙ held in
-    let one = settled-first (start .args .places) (start .args .self) (start .args .heap .now) (start .args .held) (start .args .l) _ (pre .0) (counted .used-places .ensures) in
-    one (c .with-cached .result) (c .before .put-last .result) four (pre .3) (c .before .before .if1 .taken) (pre .1) (c .before .put-last .ensures) (c .with-cached .ensures)
+    settled-first (start .args .places) (start .args .self) (start .args .heap .now) (start .args .held) (start .args .l) _ (pre .0)
+    (counted .used-places .ensures) (c .with-cached .result) (c .before .put-last .result) four (pre .3) (at-if1 .if1 .taken) (pre .1)
+    (c .before .put-last .ensures) (c .with-cached .ensures)
 
 array-copy-out-old : tie.Need-array-copy-out-old
 array-copy-out-old c = search needs
@@ -37,11 +39,13 @@ get-hdr-chunk-size-requires c κs = search needs
 
 release-chunk-requires : tie.Need-release-chunk-requires
 release-chunk-requires c κs =
-    let start = c .before .before .before .before .before .before .before .before .before in
-    let counted = c .before .before .before .before .before .before in
+    let at-link-to-hdr = c .before .before in
+    let at-if1 = at-link-to-hdr .before .before .before in
+    let counted = at-if1 .before in
+    let start = counted .before .before .before in
     let pre = start .pre in
-    let one = settle-safe (start .args .places) (start .args .self) (start .args .heap .now) (start .args .held) (start .args .l) _ (pre .0) (counted .used-places .ensures) in
-    one (c .before .before .before .before .before .if1 .left) (pre .2) _ _ (c .before .before .link-to-hdr .ensures) (c .before .get-hdr-chunk-size .ensures)
+    settle-safe (start .args .places) (start .args .self) (start .args .heap .now) (start .args .held) (start .args .l) _ (pre .0)
+    (counted .used-places .ensures) (at-if1 .if1 .left) (pre .2) _ _ (at-link-to-hdr .link-to-hdr .ensures) (c .before .get-hdr-chunk-size .ensures)
 
 left-out-requires : tie.Need-left-out-requires
 left-out-requires c κs = search needs
@@ -60,14 +64,21 @@ same-length c = search needs
 
 returns-2 : tie.Need-returns-2
 returns-2 c =
-    let start = c .before .before .before .before .before .before .before .before .before .before .before .before .before .before .before .before in
-    let counted = c .before .before .before .before .before .before .before .before .before .before .before .before .before in
-    let freed = c .before .before .before .before .before .before in
+    let at-monus = c .before .before in
+    let at-left-out = at-monus .before in
+    let freed = at-left-out .before .before .before in
+    let at-get-hdr-chunk-size = freed .before .before in
+    let at-link-to-hdr = at-get-hdr-chunk-size .before in
+    let at-if1 = at-link-to-hdr .before .before .before in
+    let counted = at-if1 .before in
+    let start = counted .before .before .before in
     let pre = start .pre in
-    let one = settled-next (start .args .places) (start .args .self) (start .args .heap .now) (start .args .held) (start .args .l) _ (pre .0) (counted .used-places .ensures) in
-    let next = one (c .before .before .before .before .before .before .before .before .before .before .before .before .if1 .left) (pre .2) (freed .release-chunk .result) (c .count-out .result) _ (c .before .put-last2 .result) (c .before .before .before .left-out .result) _ _ _ (pre .1) in
-    let gone = next (c .before .before .before .before .before .before .before .before .before .link-to-hdr .ensures) (c .before .before .before .before .before .before .before .before .get-hdr-chunk-size .ensures) (freed .release-chunk .ensures) in
-    gone (c .before .before .before .left-out .ensures) (c .before .before .monus .ensures) (c .before .put-last2 .ensures) (c .count-out .ensures)
+    let next =
+    settled-next (start .args .places) (start .args .self) (start .args .heap .now) (start .args .held) (start .args .l) _ (pre .0)
+    (counted .used-places .ensures) (at-if1 .if1 .left) (pre .2) (freed .release-chunk .result) (c .count-out .result) _
+    (c .before .put-last2 .result) (at-left-out .left-out .result) _ _ _ (pre .1) in
+    next (at-link-to-hdr .link-to-hdr .ensures) (at-get-hdr-chunk-size .get-hdr-chunk-size .ensures) (freed .release-chunk .ensures)
+    (at-left-out .left-out .ensures) (at-monus .monus .ensures) (c .before .put-last2 .ensures) (c .count-out .ensures)
 
 pub settle-spec : {M : Type 1} → statement M
 settle-spec =

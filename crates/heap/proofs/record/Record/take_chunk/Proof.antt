@@ -23,7 +23,16 @@ same-length : tie.Need-same-length
 same-length c = search needs
 
 returns : tie.Need-returns
-returns c = take-by (c .before .before .before .before .before .before .before .before .before .before .before .before .before .before .before .args .self) (c .before .before .before .before .before .before .before .before .before .before .before .unlink-chunk .result) (c .before .before .return-excess-to-free-list .result) _ _ _ _ _ _ _ _ _ (c .before .before .before .before .before .before .before .before .before .before .before .before .before .before .before .pre .0) (c .before .before .before .before .before .before .before .before .before .before .before .before .before .link-to-hdr .ensures) (c .before .before .before .before .before .before .before .before .before .before .before .unlink-chunk .ensures) (c .before .before .before .before .before .before .before .portion-of .ensures) (c .before .before .before .before .before .before .set-hdr .ensures) (c .before .before .return-excess-to-free-list .ensures)
+returns c =
+    let at-return-excess-to-free-list = c .before .before in
+    let at-set-hdr = at-return-excess-to-free-list .before .before .before .before in
+    let at-portion-of = at-set-hdr .before in
+    let at-unlink-chunk = at-portion-of .before .before .before .before in
+    let at-link-to-hdr = at-unlink-chunk .before .before in
+    let entry = at-link-to-hdr .before .before in
+    take-by (entry .args .self) (at-unlink-chunk .unlink-chunk .result) (at-return-excess-to-free-list .return-excess-to-free-list .result) _ _ _ _ _
+    _ _ _ _ (entry .pre .0) (at-link-to-hdr .link-to-hdr .ensures) (at-unlink-chunk .unlink-chunk .ensures) (at-portion-of .portion-of .ensures)
+    (at-set-hdr .set-hdr .ensures) (at-return-excess-to-free-list .return-excess-to-free-list .ensures)
 
 pub take-chunk-spec : {M : Type 1} → statement M
 take-chunk-spec =

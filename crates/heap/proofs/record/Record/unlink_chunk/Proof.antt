@@ -27,8 +27,16 @@ same-length c = search needs
 
 returns : tie.Need-returns
 returns c =
-    unlink-by _ _ _ _ _ _ _ _ _ (c .before .before .before .before .before .before .before .before .before .before .before .before .before .before .before .pre) (c .before .before .before .before .before .before .before .before .before .before .before .before .hdr-to-prev-hdr .ensures) (c .before .before .before .before .before .before .before .before .before .before .hdr-to-next-hdr .ensures) (c .before .before .before .before .before .before .before .before .before .set-sentinel-next .ensures) (c .before .before .before .before .before .before .before .set-chunk-next .ensures)
-    (c .before .before .before .before .set-sentinel-prev .ensures) (c .before .before .set-chunk-prev .ensures)
+    let at-set-chunk-prev = c .before .before in
+    let at-set-sentinel-prev = at-set-chunk-prev .before .before in
+    let at-set-chunk-next = at-set-sentinel-prev .before .before .before in
+    let at-set-sentinel-next = at-set-chunk-next .before .before in
+    let at-hdr-to-next-hdr = at-set-sentinel-next .before in
+    let at-hdr-to-prev-hdr = at-hdr-to-next-hdr .before .before in
+    let entry = at-hdr-to-prev-hdr .before .before .before in
+    unlink-by _ _ _ _ _ _ _ _ _ (entry .pre) (at-hdr-to-prev-hdr .hdr-to-prev-hdr .ensures) (at-hdr-to-next-hdr .hdr-to-next-hdr .ensures)
+    (at-set-sentinel-next .set-sentinel-next .ensures) (at-set-chunk-next .set-chunk-next .ensures)
+    (at-set-sentinel-prev .set-sentinel-prev .ensures) (at-set-chunk-prev .set-chunk-prev .ensures)
 
 pub unlink-chunk-spec : {M : Type 1} → statement M
 unlink-chunk-spec =

@@ -42,7 +42,7 @@ returns-2 c =
     let entry = test .before .before .before in
     unlink-noted-by (entry .args .self) (off .unlink-chunk .result) _ _ _ _ _ _ _ _ _ _ _ _ (not-false (entry .args .on) (test .if1 .left)) (entry .pre .0)
     (read .before .before .hdr-to-prev-hdr .ensures) (read .hdr-to-next-hdr .ensures)
-    (first .note-link .ensures) (second .note-link2 .ensures) (off .unlink-chunk .ensures)
+    (entry .pre .1) (first .note-link .kept .1 .0) (first .note-link .ensures) (second .note-link2 .ensures) (off .unlink-chunk .ensures)
 
 pub unlink-noted-spec : {M : Type 1} → statement M
 unlink-noted-spec =
