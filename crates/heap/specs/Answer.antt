@@ -1,4 +1,4 @@
--- DOCUMENT 01'S ANSWER NUMBERS: of each case of the answer its number, value and compared count; and an answer beside the state after the call as the
+-- DOCUMENT 01'S ANSWER NUMBERS: of each case of the answer its number, value and compared count; and an answer and the state after the call as the
 -- rules' outcome.
 use mathlib.Core.Path.{_≡_}
 use mathlib.Core.Bool.{Bool, true}
@@ -35,11 +35,11 @@ value a = said a .value
 abbrev pub compared : Answer → ℕ
 compared a = said a .compared
 
--- an answer beside the state after the call, as the rules' outcome
+-- an answer and the state after the call, as the rules' outcome
 abbrev pub outcome : Answer → State → Outcome State
 outcome a s = says (number a) (value a) (compared a) s
 
--- the test that answer 5 goes by, with so many cache places
+-- the test behind answer 5, with this many cache places
 abbrev pub soundAt : ℕ → State → Bool
 soundAt places s = soundᵇ base 65529 places s
 

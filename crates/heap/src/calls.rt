@@ -1,6 +1,7 @@
 // The three public calls: make (mcu_heap_init), hand_out (mcu_malloc) and take_back (mcu_free), and the audit that they go by.
 //
-// Each refuses by number, in document 01's order of tests, before it writes anything; what follows a passed audit is heap.rs.
+// Each refuses by number, in document 01's order of tests, and a refusal leaves every word as it was: it comes before anything is written, or, where the
+// cache was emptied for nothing, the words are put back. What follows a passed audit is heap.rs, but for that emptying and for `never`.
 ghost use mathlib.Core.Path.{_≡_};
 ghost use mathlib.Core.Bool.{true};
 ghost use mathlib.Core.List.{[], _∷_, _++_};

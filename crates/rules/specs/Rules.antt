@@ -13,7 +13,7 @@ use Rattle.rules.specs.Search.{Found, at, nowhere, lost, find, inTurn}
 use Rattle.rules.specs.Lists.{walk}
 use Rattle.rules.specs.Place.{usedAt, tile}
 
--- what the record holds beside its links; the cached chunks by their links, oldest first; in use as tasks hold it, and committed, which counts the cached
+-- what the record holds besides its links; the cached chunks by their links, oldest first; in use as tasks hold it, and committed, which counts the cached
 -- chunks too
 pub record Figures : Type 0 where
   pub words : ℕ
