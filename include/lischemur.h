@@ -67,7 +67,7 @@ extern "C" {
 #endif
 
 /* The version, and the number of the layout of what crosses the door, which is the version's second number too. */
-#define LISCHEMUR_VERSION "0.4.1"
+#define LISCHEMUR_VERSION "0.4.2"
 #define LISCHEMUR_LAYOUT 4
 
 /* How the library's names end on a microcontroller: in the architecture that it is compiled for (meter/parts has the list). The compiler
@@ -118,8 +118,8 @@ extern "C" {
 /*
  * How large a heap has to be. A payload takes a chunk of LISCHEMUR_CHUNK(size) bytes: 8 more if those would be left over, up
  * to 512 more if a cached chunk serves it. A search for less than 512 bytes looks only at chunks of at least the next power
- * of two, so the free chunk that serves a size has LISCHEMUR_SERVES(size) bytes or more, and 3, no fit, is replied though a
- * shorter one would hold the payload: a just-made heap of 127 words is one free chunk of 504 bytes and refuses 245 bytes,
+ * of two, so the free chunk that serves a size has LISCHEMUR_SERVES(size) bytes or more, and a handout is refused though a
+ * shorter one would hold the payload: a just-made heap of 127 words is one free chunk of 504 bytes and says 8, never, to 245 bytes,
  * which would take 256 of them, since 512 are looked for. A just-made heap of LISCHEMUR_WORDS(count, size) words, and none of
  * fewer, serves `count` handouts of `size` bytes each before any is taken back.
  *
@@ -154,11 +154,13 @@ enum lischemur_number {
     LISCHEMUR_DONE = 0,       /* the value is the payload's offset for a handout, the number of lines for a map, else 0 */
     LISCHEMUR_ZERO_SIZE = 1,  /* zero bytes were asked for */
     LISCHEMUR_TOO_LARGE = 2,  /* more than LISCHEMUR_MOST_SIZE bytes were asked for */
-    LISCHEMUR_NO_FIT = 3,     /* no cached chunk serves and no free one reaches LISCHEMUR_SERVES(size), not even with the cache emptied */
+    LISCHEMUR_NO_FIT = 3,     /* no cached chunk serves and no free one reaches LISCHEMUR_SERVES(size), not even with the cache emptied; may be
+                                 served later */
     LISCHEMUR_NOT_LIVE = 4,   /* no payload that is handed out starts at this offset: a second free, say */
     LISCHEMUR_DAMAGED = 5,    /* record and words are not sound together, or no heap was made */
     LISCHEMUR_BAD_LENGTH = 6, /* from making: not an accepted number of words (odd, 5 to 65,529) */
-    LISCHEMUR_NO_FRAME = 7    /* for the trace program only: no call here gives it */
+    LISCHEMUR_NO_FRAME = 7,   /* for the trace program only: no call here gives it */
+    LISCHEMUR_NEVER_FITS = 8  /* no heap of this length can ever serve it: do not retry */
 };
 
 /* From the map's call, the same 6: the map is longer than the room. One number, so a switch has one case for both names. */
@@ -202,8 +204,8 @@ typedef struct lischemur_marking {
 lischemur_reply lischemur_make(lischemur_record *record, uint32_t *heap, uint64_t heap_words, uint32_t words);
 
 /*
- * Hands out a payload of at least `size` bytes, or replies 1, 2, 5 or 3, tested in that order. Every word of the payload is 0, up
- * to its chunk's end. Before it replies 3 it empties the cache: every cached chunk is released and merged with its free neighbours, and
+ * Hands out a payload of at least `size` bytes, or replies 1, 2, 5, 8 or 3, tested in that order. Every word of the payload is 0, up
+ * to its chunk's end. 8 says that LISCHEMUR_SERVES(size) exceeds the heap's bytes less the guard's four, a cached chunk or not. Before it replies 3 it empties the cache: every cached chunk is released and merged with its free neighbours, and
  * the lists are searched once more. If that does not help either, the cache and every word are as they were.
  */
 lischemur_reply lischemur_hand_out(lischemur_record *record, uint32_t *heap, uint64_t heap_words, uint32_t size);

@@ -312,7 +312,7 @@ impl<S: Sides> Comparison<S> {
         }
         let size = numbers.pick(&[1, 12, 100, 508, 600]);
         let payload = 8 * numbers.below(state.words.len() as u32 / 2 + 1) + 4;
-        self.judge_call(state, sound, &[0, 3], |r, w| door.hand_out(r, w, size))?;
+        self.judge_call(state, sound, &[0, 3, 8], |r, w| door.hand_out(r, w, size))?;
         self.judge_call(state, sound, &[0, 4], |r, w| door.take_back(r, w, payload))?;
         if numbers.one_in(8) {
             self.judge_call(state, true, &[1], |r, w| door.hand_out(r, w, 0))?;
@@ -641,7 +641,7 @@ fn main() {
     plain.iter().for_each(Comparison::total);
     println!(
         "compare: {} requests put to Rust and port, {} of them in {histories} random histories, no difference; {} histories ended before a request that \
-         the port serves and the Rust refuses, {} such requests left out; {} words compared with the Rust's, \
+         one serves and the other refuses, {} such requests left out; {} words compared with the Rust's, \
          {} more, in payloads that it had been left to hand out uncleared, held to 0; {} states audited alike, {} sound and {} damaged, with {} calls \
          on them",
         all.pair.requests,

@@ -14,13 +14,16 @@ class Fault(Exception):
 
 def readings(heap, size):
     """Whether the Rust serves a request and whether the rules do, by a plain reading of headers and cached chunks: a cached chunk serves; or, for the
-    Rust, a free chunk reaches the threshold, and for the rules a run of touching chunks that are free or cached."""
+    Rust, a free chunk reaches the threshold, and for the rules a run of touching chunks that are free or cached. By the rules none does if the
+    threshold exceeds the heap's bytes less the guard's."""
     s = model.rounded(size)
+    may = model.threshold(s) <= 4 * heap.record.words - 4
     chunks = list(heap.chunks())
     cached = [chunk for chunk in chunks if chunk.link in heap.record.cached]
     from_cache = any(s <= chunk.length <= s + 512 for chunk in cached)
     free = [chunk.length for chunk in chunks if not chunk.used]
-    return tuple(from_cache or any(length >= model.threshold(s) for length in lengths) for lengths in (free, runs(heap)))
+    rust, rules = (from_cache or any(length >= model.threshold(s) for length in lengths) for lengths in (free, runs(heap)))
+    return rust, rules and may
 
 
 def runs(heap):
@@ -102,8 +105,8 @@ def size_of(rng, words):
 
 
 def fit(heap, kind, size):
-    """Before a handout, in the model: whether the rules serve it, and how many chunks a refusal compares: from 512 on the class 5 list and that of
-    the emptied heap. Nothing for other requests, and for models with a slip."""
+    """Before a handout, in the model: whether the rules serve it, and what it is refused with: 8 if it can never fit, else 3 and how many chunks are compared,
+    from 512 on the class 5 list and that of the emptied heap. Nothing for other requests, and for models with a slip."""
     if not in_domain(heap, kind, size) or type(heap) is not model.Heap:
         return None
     s = model.rounded(size)
@@ -113,15 +116,16 @@ def fit(heap, kind, size):
         raise Fault("the search finds a chunk exactly when one reaches the threshold: s = %d, free %s" % (s, free))
     if found is not None and s < 512 and count != 1:
         raise Fault("a search for less than 512 that finds a chunk compares one: s = %d, free %s" % (s, free))
-    return readings(heap, size)[1], sum(length >= 512 for length in free + runs(heap)) if s >= 512 else 0
+    if model.threshold(s) > 4 * heap.record.words - 4:
+        return False, model.Answer(model.NEVER_FITS)
+    return readings(heap, size)[1], model.Answer(model.NO_FIT, 0, sum(length >= 512 for length in free + runs(heap)) if s >= 512 else 0)
 
 
 def check_fit(fits, request, answer):
-    """After a handout, in the model: it was refused exactly where headers and cached chunks said so, with the count that they said."""
+    """After a handout, in the model: it was refused exactly where headers and cached chunks said so, with the number and count that they said."""
     if fits is None:
         return
-    served, count = fits
-    wanted = model.Answer(model.NO_FIT, 0, count)
+    served, wanted = fits
     if (answer.number == model.DONE) != served or (not served and answer != wanted):
         raise Fault("%s is answered %s, and the headers say served: %s, else %s" % (request, answer, served, wanted))
 
@@ -382,6 +386,33 @@ class SaysNoWithTheCacheFull(model.Heap):
         return model.Answer(model.NO_FIT, 0, compared)
 
 
+class TellsNeverBySize(model.Heap):
+    def never_fits(self, s):
+        return s > 4 * self.record.words - 4
+
+
+class TellsNeverAfterTheCache(model.Heap):
+    def never_fits(self, s):
+        return super().never_fits(s) and self.oldest_serving(s) is None
+
+
+class TellsNeverOfAHeapThatIsFull(model.Heap):
+    def never_fits(self, s):
+        return super().never_fits(s) or self.record.committed + s > 4 * self.record.words - 4
+
+
+class NeverSaysNever(model.Heap):
+    """The rules before they told what can never fit."""
+
+    def never_fits(self, s):
+        return False
+
+
+class TellsNeverOfWhatJustFits(model.Heap):
+    def never_fits(self, s):
+        return model.threshold(s) >= 4 * self.record.words - 4
+
+
 class HandsOutTheNewestThatServes(model.Heap):
     def oldest_serving(self, s):
         self.record.cached.reverse()
@@ -461,20 +492,26 @@ SLIPS_WITH_PLACES = (
     KeepsThemByOffset,
 )
 
-# Slips that show only where the cache is emptied, before which a run against the Rust ends; and for each the smallest history that tells it, as
-# oracle/smallest finds it, on a heap with four cache places: by an answer where there is one, else by a word
-SLIPS_IN_EMPTYING = {
-    SaysNoWithTheCacheFull: "make 131, ask 532",
-    SearchesOnceWithAnEmptyCache: "make 131, ask 532",
-    CountsTheFirstSearchAlone: "make 131, ask 532",
-    CountsTheSecondSearchAlone: "make 131, ask 532",
+# Slips that show only where the cache is emptied or a size can never fit, before which a run against the Rust ends, or in the number and count of a
+# refusal, which the Rust does not say; and for each the smallest history that tells it, as oracle/smallest finds it, on a heap with four cache places: by
+# an answer where there is one, else by a word
+SLIPS_IN_REFUSING = {
+    SaysNoWithTheCacheFull: "make 135, ask 12, ask 532",
+    SearchesOnceWithAnEmptyCache: "make 135, ask 12, ask 532",
+    CountsTheFirstSearchAlone: "make 135, ask 12, ask 532",
+    CountsTheSecondSearchAlone: "make 135, ask 12, ask 532",
     CountsTheEmptiedAsHeld: "make 9, ask 12, free 4, ask 20, ask 12",
     LetsThePeakCountWhatWasEmptied: "make 9, ask 12, free 4, ask 20, ask 12",
-    LeavesTheCacheEmptiedByARefusal: "make 9, ask 12, free 4, ask 28, ask 12",
-    LeavesTheWordsEmptiedByARefusal: "make 9, ask 12, free 4, ask 28, ask 12",
-    PutsBackTagsAlone: "make 9, ask 12, free 4, ask 28",
+    LeavesTheCacheEmptiedByARefusal: "make 13, ask 12, ask 12, free 4, ask 20, ask 12",
+    LeavesTheWordsEmptiedByARefusal: "make 13, ask 12, ask 12, free 4, ask 20, ask 12",
+    PutsBackTagsAlone: "make 13, ask 12, ask 12, free 4, ask 20",
     HandsOutTheMergedChunkWhole: "make 17, ask 12, free 4, ask 28, ask 12",
     EmptiesTheOldestAlone: "make 13, ask 12, ask 12, free 4, free 20, ask 20",
     EmptiesTheCacheOnlyUntilItFits: "make 13, ask 12, ask 12, free 20, free 4, ask 20",
     EmptiesTheNewestFirst: "make 273, ask 508, ask 12, ask 508, free 4, free 532, ask 532",
+    TellsNeverBySize: "make 5, ask 12",
+    TellsNeverAfterTheCache: "make 9, ask 20, free 4, ask 28",
+    TellsNeverOfAHeapThatIsFull: "make 9, ask 12, ask 20",
+    TellsNeverOfWhatJustFits: "make 9, ask 12",
+    NeverSaysNever: "make 5, ask 12",
 }

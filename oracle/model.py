@@ -28,7 +28,7 @@ CACHE_SLACK = 512
 BYTES_A_STACKLET = 108
 TRACE_WORDS = 16_383
 
-DONE, ZERO_SIZE, TOO_LARGE, NO_FIT, NOT_LIVE, DAMAGED, BAD_LENGTH, NO_FRAME = range(8)
+DONE, ZERO_SIZE, TOO_LARGE, NO_FIT, NOT_LIVE, DAMAGED, BAD_LENGTH, NO_FRAME, NEVER_FITS = range(9)
 
 
 class Answer(NamedTuple):
@@ -262,6 +262,8 @@ class Heap:
         if not self.sound():
             return Answer(DAMAGED)
         s = rounded(size)
+        if self.never_fits(s):
+            return Answer(NEVER_FITS)
         cached = self.oldest_serving(s)
         if cached is not None:
             self.record.cached.remove(cached.link)
@@ -302,6 +304,10 @@ class Heap:
         self.count(chunk)
         self.clear(chunk)
         return Answer(DONE, chunk.payload, compared)
+
+    def never_fits(self, s):
+        """Whether the threshold for s exceeds heap bytes - 4, so that no heap of this length can ever serve it from its lists."""
+        return threshold(s) > 4 * self.record.words - 4
 
     def oldest_serving(self, s):
         """The oldest cached chunk that serves s, or none."""

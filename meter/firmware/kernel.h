@@ -11,7 +11,7 @@
 #endif
 
 struct answer {
-    uint32_t number;   /* 0 to 6, as in the rules */
+    uint32_t number;   /* 0 to 6, or 8, as in the rules */
     uint32_t value;    /* the payload's offset for a handout, the number of lines for a map */
     uint32_t compared; /* how many free chunks were compared */
 };

@@ -11,12 +11,13 @@
 //! Rust clears it, and every word is compared with the Rust's. In the other half the Rust is left alone: a word of a payload has
 //! to be 0 from its handout until a task writes it or a call makes it a header, footer or link word, and every other word the Rust's.
 //!
-//! The port empties its cache before it says no, and the Rust does not, so there are requests that the port serves and the Rust refuses. Before each
+//! The port empties its cache before it says no, and the Rust does not, so there are requests that the port serves and the Rust refuses; and the port
+//! says 8, never, to a size whose threshold the whole heap does not reach, which the Rust may serve from its cache. Before each
 //! request a plain reading of the Rust's own headers says what either does. Where the two part the request is not compared: as a rule it is left
-//! out, and the history goes on as if it had not been made; one time in so many it is put to the Rust, which must refuse, and to the port alone, on
-//! a copy, which must serve it as plain.rs does, and the history ends before it. Where the reading says that they do not part and their answers
-//! do, that is a difference. Of a request that both refuse the Rust's count is that of its one search: there the port's is compared with plain.rs's,
-//! which is asked everything that the port is.
+//! out, and the history goes on as if it had not been made; one time in so many it is put to the Rust and to the port, on a copy, each of
+//! which must do what was read, the port as plain.rs does, and the history ends before it. Where the reading says that they do not part and their
+//! answers do, that is a difference. Of a request that both refuse the Rust says null, and its count is that of its one search: there the port's number, 3
+//! or 8, and its count are compared with plain.rs's, which is asked everything that the port is.
 
 use crate::audit;
 use crate::beside::answer;
@@ -285,8 +286,8 @@ impl Pair {
         (refusal(0), port, rules)
     }
 
-    /// The answers to asking, or where the Rust is not as its headers were read. 1, 2 and 5 are the rules'; where the Rust is asked, null is 3,
-    /// with the rules' count.
+    /// The answers to asking, or where the Rust is not as its headers were read. 1, 2 and 5 are the rules'; where the Rust is asked, null is
+    /// the rules' 3 or 8, with their count.
     fn ask(&mut self, size: u32, read: Option<bool>) -> Result<(Reply, Reply, Reply), String> {
         let slice = &mut self.memory[..self.made as usize];
         let port = port::ONE.door.hand_out(&mut self.record, slice, size);
@@ -295,7 +296,7 @@ impl Pair {
             0 => refusal(1),
             _ if size > LARGEST_SIZE => refusal(2),
             _ if self.made == 0 => refusal(5),
-            _ => self.ask_rust(size, rules.compared),
+            _ => self.ask_rust(size, rules),
         };
         match read {
             Some(serves) if serves != (rust.number == 0) => Err(format!(
@@ -305,12 +306,13 @@ impl Pair {
         }
     }
 
-    /// The Rust's answer to asking; of a refusal with this count.
-    fn ask_rust(&mut self, size: u32, refused: u32) -> Reply {
+    /// The Rust's answer to asking. Null is what the rules refuse with, 3 if they do not.
+    fn ask_rust(&mut self, size: u32, rules: Reply) -> Reply {
         let Some(payload) = self.oracle.hand_out(size) else {
-            return Reply {
-                compared: refused,
-                ..refusal(3)
+            return if matches!(rules.number, 3 | 8) {
+                rules
+            } else {
+                refusal(3)
             };
         };
         self.live.push(payload);
@@ -334,8 +336,8 @@ impl Pair {
     }
 
     /// Whether the Rust serves a size and whether the port does, by the Rust's headers and its cached chunk; nothing where the Rust is not asked.
-    /// The Rust: its cached chunk serves, or a free chunk reaches the threshold. The port: the cached chunk serves, or a run of touching chunks
-    /// that are free or cached does.
+    /// The Rust: its cached chunk serves, or a free chunk reaches the threshold. The port: not where the threshold exceeds the heap's bytes less
+    /// the guard's; else the cached chunk serves, or a run of touching chunks that are free or cached reaches it.
     fn reading(&self, size: u32) -> Option<(bool, bool)> {
         if self.made == 0 || size == 0 || size > LARGEST_SIZE {
             return None;
@@ -357,7 +359,8 @@ impl Pair {
             longest = longest.max(run);
         }
         let reaches = |length| from_cache || length >= threshold;
-        Some((reaches(free), reaches(longest)))
+        let never = threshold > 4 * self.made - 4;
+        Some((reaches(free), reaches(longest) && !never))
     }
 
     /// A request at which Rust and port part. One time in so many, as the headers and the size say, it ends the history; else it is left out.
@@ -375,22 +378,23 @@ impl Pair {
         self.beyond(size).map_or(Ok("the two part".into()), Err)
     }
 
-    /// What is wrong with the answers to a request at which the two part, if anything is: the Rust refuses it, and the port, on a copy, serves it as
-    /// the rules without words do and leaves a sound heap and an empty payload.
+    /// What is wrong with the answers to a request at which the two part, if anything is. The port, on a copy, answers as the rules without words do: it
+    /// serves what the Rust refuses, and leaves a sound heap and an empty payload; or it says 8 to what the Rust serves, and leaves all as it was.
     fn beyond(&mut self, size: u32) -> Option<String> {
         let mut state = self.state();
+        let before = state.clone();
         let mut rules = self.plain.clone();
         let given = port::ONE
             .door
             .hand_out(&mut state.record, &mut state.words, size);
         let wanted = rules.hand_out(size);
-        if answer(given) != wanted || given.number != 0 {
-            return Some(format!("the Rust refuses what a run of chunks that touch would serve: {wanted:?} wanted, {given} given"));
+        let served = self.oracle.hand_out(size).is_some();
+        if answer(given) != wanted || given.number != if served { 8 } else { 0 } {
+            return Some(format!("where the two part: the Rust serves it: {served}; {wanted:?} wanted, {given} given"));
         }
-        if let Some(payload) = self.oracle.hand_out(size) {
-            return Some(format!(
-                "the Rust serves, at {payload}, what its headers cannot"
-            ));
+        if served {
+            return (state != before)
+                .then(|| format!("{given} is answered and something has changed"));
         }
         if state.record != rules.record() {
             return Some(format!(

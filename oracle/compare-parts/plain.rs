@@ -46,6 +46,12 @@ fn rounded(size: u32) -> u32 {
     (size + 4).max(LEAST_CHUNK).div_ceil(8) * 8
 }
 
+/// The least length of a listed chunk that serves a rounded size: below 512 the next power of two above it, from 512 on itself.
+fn threshold(s: u32) -> u32 {
+    let powers = [32, 64, 128, 256, 512];
+    powers.into_iter().find(|power| *power > s).unwrap_or(s)
+}
+
 /// The class of a length.
 fn class(length: u32) -> usize {
     [32, 64, 128, 256, 512]
@@ -94,6 +100,9 @@ impl Plain {
             return (5, 0, 0);
         }
         let s = rounded(size);
+        if threshold(s) > 4 * self.words - 4 {
+            return (8, 0, 0);
+        }
         if let Some(start) = self.from_cache(s) {
             return (0, start + 4, 0);
         }

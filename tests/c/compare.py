@@ -87,7 +87,7 @@ def told_apart(trace, places, slip):
 
 def emptying():
     """The smallest histories that tell slips in emptying the cache, with four cache places: the input, and the model's lines; and those of each slip."""
-    cases = histories.SLIPS_IN_EMPTYING.items()
+    cases = histories.SLIPS_IN_REFUSING.items()
     for slip, history in cases:
         requests = [request.split() for request in history.split(", ")]
         data = b"".join(b"%02X%08X\n" % (("make", "ask", "free").index(kind), int(number)) for kind, number in requests)

@@ -139,7 +139,7 @@ def check_served(heap, data):
     if [chunk.length for chunk in emptied.chunks() if not chunk.used] != list(map(heapmap.bytes_of, heapmap.runs(chunks))):
         fail("the runs of touching free or cached chunks are the free ones of the emptied heap", data)
     searched = lambda s: heap.search(s)[0] is not None or emptied.search(s)[0] is not None
-    serves = {s: heap.oldest_serving(s) is not None or searched(s) for s in {model.rounded(size) for size in sizes}}
+    serves = {s: not heap.never_fits(s) and (heap.oldest_serving(s) is not None or searched(s)) for s in {model.rounded(size) for size in sizes}}
     wanted = [size for size in sizes if serves[model.rounded(size)]]
     most = heapmap.served(chunks)
     if wanted != list(range(1, most + 1)):
@@ -176,7 +176,7 @@ def check_requests():
         whole = b"10%08X%08X\n" % (0, 4 * words - 4)
         said = ask("trace", b"00%08X\n01%08X\n" % (words, most + 1)) + (ask("trace", b"00%08X\n01%08X\n" % (words, most)) if most else b"")
         numbers = [line[:2] for line in said.splitlines()]
-        if heapmap.served(heapmap.read(whole)[0]) != most or numbers != [b"00", b"03", b"00", b"00"][: len(numbers)]:
+        if heapmap.served(heapmap.read(whole)[0]) != most or numbers != [b"00", b"08", b"00", b"00"][: len(numbers)]:
             fail("the largest request on a heap of %d words just made" % words, most, said)
     return ways
 
@@ -187,7 +187,9 @@ def check_words():
         (b"1000000000000001F8\n", "504 bytes at 0 (1 chunk)", "244 bytes"),
         (b"100000000000000018\n", "24 bytes at 0 (1 chunk)", "none"),
         (b"110000000000000018\n", "none", "none"),
-        (b"120000000000000018\n", "24 bytes at 0 (1 chunk)", "20 bytes (a cached chunk)"),
+        (b"120000000000000018\n", "24 bytes at 0 (1 chunk)", "none"),
+        (b"120000000000000020\n", "32 bytes at 0 (1 chunk)", "20 bytes (a cached chunk)"),
+        (b"120000000000000018\n110000001800000018\n", "24 bytes at 0 (1 chunk)", "20 bytes (a cached chunk)"),
         (b"120000000000000010\n100000001000000010\n", "32 bytes at 0 (2 chunks)", "20 bytes (with the cache emptied)"),
         (b"120000000000000210\n", "528 bytes at 0 (1 chunk)", "524 bytes (a cached chunk)"),
         (b"120000000000000100\n110000010000000010\n100000011000000100\n", "256 bytes at 0 (1 chunk)", "252 bytes (a cached chunk)"),

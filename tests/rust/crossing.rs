@@ -104,7 +104,13 @@ fn numbers(checks: &mut Checks) {
     }
     let no_room = Refusal::NoRoom.number();
     checks.equal(format_args!("number of a short room"), no_room, 6);
-    for number in (7..1000).chain([u32::MAX]) {
+    let never = (Refusal::of_number(8), Refusal::NeverFits.number());
+    checks.equal(
+        format_args!("number 8"),
+        never,
+        (Err(Refusal::NeverFits), 8),
+    );
+    for number in (9..1000).chain([7, u32::MAX]) {
         let meant = Refusal::of_number(number);
         let wanted = Err(Refusal::Unknown(number));
         checks.equal(format_args!("number {number}"), meant, wanted);

@@ -72,7 +72,7 @@ fn dimensions(checks: &mut Checks) {
         let size = served(4 * (length - 1));
         let mut heap = Heap::make(&mut words[..length]).expect("an accepted length");
         let what = format_args!("{} bytes in {length} words", size + 1);
-        checks.equal(what, heap.alloc(size + 1), Err(Refusal::NoFit));
+        checks.equal(what, heap.alloc(size + 1), Err(Refusal::NeverFits));
         let got = heap.alloc(size).is_ok();
         checks.equal(
             format_args!("{size} bytes in {length} words"),
@@ -108,7 +108,11 @@ fn incident(checks: &mut Checks) {
         checks.equal(format_args!("after it"), state(&heap, 33), before.clone());
     }
     let most = heap.hand_out(MOST_SIZE);
-    checks.equal(format_args!("the largest size"), most, Err(Refusal::NoFit));
+    checks.equal(
+        format_args!("the largest size"),
+        most,
+        Err(Refusal::NeverFits),
+    );
     checks.equal(format_args!("after it"), state(&heap, 33), before);
 }
 
@@ -137,11 +141,12 @@ fn entries(checks: &mut Checks) {
         checks.holds(format_args!("making {words} words"), held);
     }
     let no_fit = Err(Refusal::NoFit);
-    entry(checks, 5, &[1], &[no_fit]);
-    entry(checks, 7, &[1], &[no_fit]);
+    let never = Err(Refusal::NeverFits);
+    entry(checks, 5, &[1], &[never]);
+    entry(checks, 7, &[1], &[never]);
     entry(checks, 9, &[12, 1], &[Ok(Offset(4)), no_fit]);
     entry(checks, 9, &[20, 1], &[Ok(Offset(4)), no_fit]);
-    entry(checks, 9, &[28, MOST_SIZE], &[no_fit, no_fit]);
+    entry(checks, 9, &[28, MOST_SIZE], &[never, never]);
     entry(
         checks,
         33,
@@ -420,13 +425,16 @@ type Emptied = (
     u32,
 );
 
-/// The cache is emptied before a handout is refused; refused after all, nothing has changed.
+/// The cache is emptied before a handout is refused, and what can never fit is told; refused after all, nothing has changed.
 fn emptying(checks: &mut Checks) {
     const NO_FIT: Result<Offset, Refusal> = Err(Refusal::NoFit);
-    const CASES: [Emptied; 7] = [
+    const NEVER: Result<Offset, Refusal> = Err(Refusal::NeverFits);
+    const CASES: [Emptied; 9] = [
         (9, &[12], &[4], 20, Ok(Offset(4)), 1),
-        (9, &[12], &[4], 28, NO_FIT, 0),
-        (131, &[], &[], 541, NO_FIT, 2),
+        (9, &[12], &[4], 28, NEVER, 0),
+        (9, &[20], &[4], 28, NEVER, 0),
+        (131, &[], &[], 541, NEVER, 0),
+        (135, &[12], &[], 532, NO_FIT, 2),
         (281, &[556, 548], &[4], 557, NO_FIT, 1),
         (281, &[556, 548], &[4], 12, Ok(Offset(4)), 1),
         (17, &[12, 12, 12], &[36], 20, Ok(Offset(36)), 1),

@@ -7,9 +7,10 @@
 //! asked; a request outside it must be refused by name and change nothing. Tasks find their payloads
 //! empty, which the Rust's need not be, write all over them, and find them as they left them.
 //!
-//! The port empties its cache before it says no, and the Rust does not. A request that it would serve so
-//! and the Rust refuse, by a plain reading of the Rust's headers, is left out. Of one that both refuse the
-//! counts are not compared, since the port searches twice; every word of it must be as before.
+//! The port empties its cache before it says no, and the Rust does not; and the port says never where the Rust
+//! may serve from its cache. A request that one of them would serve and the other refuse, by a plain reading of the
+//! Rust's headers, is left out. Of one that both refuse the counts are not compared, since the port searches
+//! twice; it is never where the whole heap does not reach the threshold, and every word must be as before.
 
 use crate::checks::{set_word, state, word, Checks, Numbers};
 use lischemur::{map_room, Heap, Kind, Memory, Offset, Refusal, MOST_SIZE};
@@ -118,18 +119,30 @@ impl Pair<'_> {
         self.same(checks);
     }
 
-    /// Whether a request is one that the Rust refuses and the port serves: the cached chunk does not serve it, no
-    /// free chunk reaches the threshold, and a run of touching chunks that are free or cached does.
+    /// The least length of a free chunk that serves a size.
+    fn threshold(size: u32) -> u32 {
+        let chunk = (size + 4).max(16).div_ceil(8) * 8;
+        match chunk {
+            0..=511 => (chunk + 1).next_power_of_two(),
+            _ => chunk,
+        }
+    }
+
+    /// Whether the whole heap does not reach the threshold for a size.
+    fn never(&self, size: u32) -> bool {
+        Self::threshold(size) > 4 * self.oracle.words() - 4
+    }
+
+    /// Whether a request is one that the Rust refuses and the port serves, or the other way round. The Rust: its cached
+    /// chunk serves it, or a free chunk reaches the threshold. The port: the cached chunk serves it, or a run of
+    /// touching chunks that are free or cached reaches the threshold; but not where it can never fit.
     fn parts(&self, size: u32) -> bool {
         if !(1..=MOST_SIZE).contains(&size) {
             return false;
         }
         let oracle = &*self.oracle;
         let chunk = (size + 4).max(16).div_ceil(8) * 8;
-        let threshold = match chunk {
-            0..=511 => (chunk + 1).next_power_of_two(),
-            _ => chunk,
-        };
+        let threshold = Self::threshold(size);
         let cached = oracle.cached();
         let length = cached.map_or(0, |at| oracle.header(at).0);
         let serves = (chunk..=chunk.saturating_add(512)).contains(&length);
@@ -144,7 +157,9 @@ impl Pair<'_> {
             longest = run.max(longest);
             at += length;
         }
-        !serves && free < threshold && longest >= threshold
+        let rust = serves || free >= threshold;
+        let port = (serves || longest >= threshold) && !self.never(size);
+        rust != port
     }
 
     /// Ask for bytes on both sides, unless the two part.
@@ -166,6 +181,7 @@ impl Pair<'_> {
             _ if size > MOST_SIZE => Err(Refusal::TooLarge),
             _ => match self.oracle.hand_out(size) {
                 Some(offset) => Ok(Offset(offset)),
+                None if self.never(size) => Err(Refusal::NeverFits),
                 None => Err(Refusal::NoFit),
             },
         };

@@ -31,7 +31,7 @@ fn main() {
     let damaged = damage::run(&mut checks);
     let requests = histories::run(&mut checks, oracle);
     println!(
-        "rust: {} checks, {} requests compared with Hopter's heap.rs, {} left out that it refuses and the port serves, {damaged} damaged heaps refused",
+        "rust: {} checks, {} requests compared with Hopter's heap.rs, {} left out that one serves and the other refuses, {damaged} damaged heaps refused",
         checks.made(),
         requests.compared,
         requests.left_out

@@ -142,7 +142,7 @@ impl<'a> Heap<'a> {
     }
 
     /// Hand out a payload of at least `size` bytes, all of it 0 up to its chunk's end. `ZeroSize`,
-    /// `TooLarge`, `Damaged` and `NoFit` are tested in this order. Before it refuses with `NoFit` it empties
+    /// `TooLarge`, `Damaged`, `NeverFits` and `NoFit` are tested in this order. Before it refuses with `NoFit` it empties
     /// the cache and searches once more; refused after all, the cache and every word are as they were.
     pub fn hand_out(&mut self, size: u32) -> Result<Offset, Refusal> {
         let call = match self.kind {

@@ -21,8 +21,8 @@ pub const fn accepted(words: usize) -> bool {
 /// taken back.
 ///
 /// A search for less than 512 bytes looks only at chunks of at least the next power of two, so that
-/// `NoFit` can come though a shorter free chunk would hold the payload: a just-made heap of 127 words is
-/// one free chunk of 504 bytes and refuses 245 bytes.
+/// a handout can be refused though a shorter free chunk would hold the payload: a just-made heap of 127
+/// words is one free chunk of 504 bytes, and `NeverFits` is its answer to 245 bytes.
 ///
 /// ```
 /// use lischemur::{words_for, Heap, Memory};

@@ -15,6 +15,7 @@ pub enum Refusal {
     /// Answer 2: more than [`MOST_SIZE`] bytes were asked for.
     TooLarge,
     /// Answer 3: no cached chunk serves and no free one reaches the threshold, not even with the cache emptied and merged.
+    /// It may be served later.
     NoFit,
     /// Answer 4: no live payload starts at the offset.
     NotLive,
@@ -24,7 +25,9 @@ pub enum Refusal {
     BadLength,
     /// Answer 6 to a map: the room is too short.
     NoRoom,
-    /// A number that the archive does not give: 7, which is for traces, or above.
+    /// Answer 8: no heap of this length can ever serve it, so it is of no use to ask again.
+    NeverFits,
+    /// A number that the archive does not give: 7, which is for traces, or one above 8.
     Unknown(u32),
 }
 
@@ -39,6 +42,7 @@ impl Refusal {
             4 => Err(Refusal::NotLive),
             5 => Err(Refusal::Damaged),
             6 => Err(Refusal::BadLength),
+            8 => Err(Refusal::NeverFits),
             other => Err(Refusal::Unknown(other)),
         }
     }
@@ -52,6 +56,7 @@ impl Refusal {
             Refusal::NotLive => 4,
             Refusal::Damaged => 5,
             Refusal::BadLength | Refusal::NoRoom => 6,
+            Refusal::NeverFits => 8,
             Refusal::Unknown(number) => number,
         }
     }
@@ -71,6 +76,9 @@ impl fmt::Display for Refusal {
                 out.write_str("not an accepted number of words (odd, 5 to 65,529)")
             }
             Refusal::NoRoom => out.write_str("the map is longer than the room"),
+            Refusal::NeverFits => {
+                out.write_str("no heap of this length can ever serve so many bytes")
+            }
             Refusal::Unknown(number) => write!(out, "answer number {number} is unknown"),
         }
     }

@@ -20,7 +20,7 @@ use Rattle.words.proofs.Laws.Numbers.{length-numbers}
 use Rattle.words.proofs.Laws.Sizes.{class-below}
 use Rattle.rules.specs.Lists.{Mem, Seg}
 use Rattle.rules.specs.Chunks.{Legal}
-use Rattle.rules.specs.Exact.{Slot, slot, In, frees}
+use Rattle.rules.specs.Exact.{Slot, slot, frees}
 use Rattle.rules.specs.State.{ops}
 use Rattle.rules.specs.Machine.{Model}
 use Rattle.rules.specs.Sound.{CacheRight, FiguresRight, Shows, Sound}
@@ -56,54 +56,54 @@ equal m n a b f g = go (decLe 1 m) (decLe 1 n)
 
 -- THE FREE CHUNKS' LINKS are the rules' slots
 links-free : (x k at : ℕ) (cs : List Chunk) → Legal (all cs) → 0 < count x (freeLinks k at cs)
-    → (n : ℕ) × In (slot x n) (frees (at * 4) (all cs)) × (classOf n ≡ k)
+    → (n : ℕ) × Mem (slot x n) (frees (at * 4) (all cs)) × (classOf n ≡ k)
 unfolding freeLinks pick frees
 links-free x k at [] l h = absurd (omega arith)
 links-free x k at (used n ∷ cs) l h =
     let n8 = l .1 in
     let e : (at + n / 4) * 4 ≡ at * 4 + n = omega arith in
-    subst (λ (b : ℕ). (m : ℕ) × In (slot x m) (frees b (all cs)) × (classOf m ≡ k)) e (links-free x k (at + n / 4) cs (l .2) h)
+    subst (λ (b : ℕ). (m : ℕ) × Mem (slot x m) (frees b (all cs)) × (classOf m ≡ k)) e (links-free x k (at + n / 4) cs (l .2) h)
 links-free x k at (free n ∷ cs) l h = go (λ q. links-free x k (at + n / 4) cs (l .2) q) (eqb (classOf n) k) refl h
   where
     e : (at + n / 4) * 4 ≡ at * 4 + n
     e = let n8 = l .1 in omega arith
 
-    later : (m : ℕ) × In (slot x m) (frees ((at + n / 4) * 4) (all cs)) × (classOf m ≡ k)
-        → (m : ℕ) × In (slot x m) (slot (at * 4 / 4 + 6) n ∷ frees (at * 4 + n) (all cs)) × (classOf m ≡ k)
-    later p = (p .0, List·Memᴰ·tail (subst (λ (b : ℕ). In (slot x (p .0)) (frees b (all cs))) e (p .1)), p .2)
+    later : (m : ℕ) × Mem (slot x m) (frees ((at + n / 4) * 4) (all cs)) × (classOf m ≡ k)
+        → (m : ℕ) × Mem (slot x m) (slot (at * 4 / 4 + 6) n ∷ frees (at * 4 + n) (all cs)) × (classOf m ≡ k)
+    later p = (p .0, List·Memᴰ·tail (subst (λ (b : ℕ). Mem (slot x (p .0)) (frees b (all cs))) e (p .1)), p .2)
 
-    go : (0 < count x (freeLinks k (at + n / 4) cs) → (m : ℕ) × In (slot x m) (frees ((at + n / 4) * 4) (all cs)) × (classOf m ≡ k))
+    go : (0 < count x (freeLinks k (at + n / 4) cs) → (m : ℕ) × Mem (slot x m) (frees ((at + n / 4) * 4) (all cs)) × (classOf m ≡ k))
         → (t : Bool) → eqb (classOf n) k ≡ t
         → 0 < count x (pick t ((at + 6) ∷ freeLinks k (at + n / 4) cs) (freeLinks k (at + n / 4) cs))
-        → (m : ℕ) × In (slot x m) (slot (at * 4 / 4 + 6) n ∷ frees (at * 4 + n) (all cs)) × (classOf m ≡ k)
+        → (m : ℕ) × Mem (slot x m) (slot (at * 4 / 4 + 6) n ∷ frees (at * 4 + n) (all cs)) × (classOf m ≡ k)
     go f false q i = later (f i)
     go f true q i = go₂ (ℕ-discrete x (at + 6))
       where
-        go₂ : Dec (x ≡ at + 6) → (m : ℕ) × In (slot x m) (slot (at * 4 / 4 + 6) n ∷ frees (at * 4 + n) (all cs)) × (classOf m ≡ k)
+        go₂ : Dec (x ≡ at + 6) → (m : ℕ) × Mem (slot x m) (slot (at * 4 / 4 + 6) n ∷ frees (at * 4 + n) (all cs)) × (classOf m ≡ k)
         go₂ (yes j) = let y : x ≡ at * 4 / 4 + 6 = omega arith in (n, List·Memᴰ·head (λ u. record { name = y u; len = n }), eqb-true (classOf n) k q)
         go₂ (no j) = let b = diff-bit x (at + 6) j in later (f (omega arith))
 
 -- and the name of a slot is a free chunk's link
-free-links : (x n at : ℕ) (cs : List Chunk) → Legal (all cs) → In (slot x n) (frees (at * 4) (all cs)) → 0 < count x (freeLinks (classOf n) at cs)
+free-links : (x n at : ℕ) (cs : List Chunk) → Legal (all cs) → Mem (slot x n) (frees (at * 4) (all cs)) → 0 < count x (freeLinks (classOf n) at cs)
 unfolding freeLinks pick frees
 free-links x n at [] l i = absurd (List·Memᴰ·not-nil i)
 free-links x n at (used m ∷ cs) l i =
     let m8 = l .1 in
     let e : at * 4 + m ≡ (at + m / 4) * 4 = omega arith in
-    free-links x n (at + m / 4) cs (l .2) (subst (λ (b : ℕ). In (slot x n) (frees b (all cs))) e i)
+    free-links x n (at + m / 4) cs (l .2) (subst (λ (b : ℕ). Mem (slot x n) (frees b (all cs))) e i)
 free-links x n at (free m ∷ cs) l i = go (λ j. free-links x n (at + m / 4) cs (l .2) j) (eqb (classOf m) (classOf n)) refl i
   where
     e : at * 4 + m ≡ (at + m / 4) * 4
     e = let m8 = l .1 in omega arith
 
-    go : (In (slot x n) (frees ((at + m / 4) * 4) (all cs)) → 0 < count x (freeLinks (classOf n) (at + m / 4) cs)) → (t : Bool)
+    go : (Mem (slot x n) (frees ((at + m / 4) * 4) (all cs)) → 0 < count x (freeLinks (classOf n) (at + m / 4) cs)) → (t : Bool)
         → eqb (classOf m) (classOf n) ≡ t
-        → In (slot x n) (slot (at * 4 / 4 + 6) m ∷ frees (at * 4 + m) (all cs))
+        → Mem (slot x n) (slot (at * 4 / 4 + 6) m ∷ frees (at * 4 + m) (all cs))
         → 0 < count x (pick t ((at + 6) ∷ freeLinks (classOf n) (at + m / 4) cs) (freeLinks (classOf n) (at + m / 4) cs))
     go f true q (List·Memᴰ·head j) = let y : x ≡ at * 4 / 4 + 6 = ap (λ (s : Slot). s .name) j in let b = same-bit x (at + 6) (omega arith) in omega arith
     go f false q (List·Memᴰ·head j) = absurd (eqb-false (classOf m) (classOf n) q (ap (λ (s : Slot). classOf (s .len)) (sym j)))
-    go f true q (List·Memᴰ·tail j) = let r = f (subst (λ (b : ℕ). In (slot x n) (frees b (all cs))) e j) in omega arith
-    go f false q (List·Memᴰ·tail j) = f (subst (λ (b : ℕ). In (slot x n) (frees b (all cs))) e j)
+    go f true q (List·Memᴰ·tail j) = let r = f (subst (λ (b : ℕ). Mem (slot x n) (frees b (all cs))) e j) in omega arith
+    go f false q (List·Memᴰ·tail j) = f (subst (λ (b : ℕ). Mem (slot x n) (frees b (all cs))) e j)
 
 -- THE ORDERS, given for the six classes, as one family
 module _ (nx pv : ℕ → ℕ) (cs : List Chunk) (f : (c : ℕ) → c < 6 → ListRight nx pv cs c) where
@@ -196,7 +196,7 @@ module _ (places : ℕ) (prev next : List Link) (f : Figures) (ws : List ℕ) wh
     listed-link : (c x : ℕ) → c < 6 → 0 < count x (m .orders c) → 0 < count x (freeLinks c 0 ds)
     listed-link c x q a =
         let r = s .exact .only c x q (count-mem x (m .orders c) a) in
-        let i = subst (λ cs. In (slot x (r .0)) (frees 0 cs)) (sym same) (r .1) in
+        let i = subst (λ cs. Mem (slot x (r .0)) (frees 0 cs)) (sym same) (r .1) in
         subst (λ (k : ℕ). 0 < count x (freeLinks k 0 ds)) (r .2) (free-links x (r .0) 0 ds legal i)
 
     -- and back
@@ -204,7 +204,7 @@ module _ (places : ℕ) (prev next : List Link) (f : Figures) (ws : List ℕ) wh
     link-listed c x a =
         let r = links-free x c 0 ds legal a in
         subst (λ (k : ℕ). 0 < count x (m .orders k)) (r .2)
-        (mem-count x (m .orders (classOf (r .0))) (s .exact .listed x (r .0) (subst (λ cs. In (slot x (r .0)) (frees 0 cs)) same (r .1))))
+        (mem-count x (m .orders (classOf (r .0))) (s .exact .listed x (r .0) (subst (λ cs. Mem (slot x (r .0)) (frees 0 cs)) same (r .1))))
 
     -- a sentinel is not in its own list, so no link stands there twice
     no-sentinel : (c : ℕ) → c < 6 → count c (m .orders c) ≡ 0

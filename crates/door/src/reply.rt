@@ -60,6 +60,7 @@ fn reply_of(a: Answer) -> Reply
         Answer::NotLive => Reply::of(4, 0, 0),
         Answer::Damaged => Reply::of(5, 0, 0),
         Answer::BadLength => Reply::of(6, 0, 0),
+        Answer::NeverFits => Reply::of(8, 0, 0),
     }
 }
 

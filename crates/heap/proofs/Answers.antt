@@ -14,7 +14,7 @@ use mathlib.Core.Bool.{Bool, true, false}
 use mathlib.Core.List.{List, [], _∷_, _++_, List·Memᴰ·head}
 use Prim.Native.Nat.{ℕ, _+_, _-_, _*_, _/_, _%_, _^_, _≤_, _<_, min}
 use native.Mathlib.Omega.{arith}
-use borrow.Author.Tests.{lt-ltb, le-ltb, lt-leb, le-leb, leb-true, eq-eqb, ne-eqb}
+use borrow.Author.Tests.{ltb-true, ltb-false, lt-ltb, le-ltb, lt-leb, le-leb, leb-true, eq-eqb, ne-eqb}
 use lib.Dec.{eqb, leb, ltb}
 use lib.ListN.{length, getD, set, drop, length-append}
 use Rattle.words.specs.declared.names.Link.{Link}
@@ -23,7 +23,7 @@ use Rattle.words.specs.Choice.{pick}
 use Rattle.words.specs.Numbers.{numbers}
 use Rattle.words.proofs.Laws.Numbers.{numbers-at, length-numbers}
 use Rattle.words.specs.Names.{links, offsets, payloads, heldName}
-use Rattle.words.specs.Sizes.{classOf, roundedOf}
+use Rattle.words.specs.Sizes.{classOf, roundedOf, thresholdOf}
 use Rattle.words.specs.Tags.{at, lengthOf, rightOf, footerOf}
 use Rattle.words.specs.Links.{narrow}
 use Rattle.rules.specs.Ops.{Ops}
@@ -31,7 +31,7 @@ use Rattle.rules.specs.Lists.{Mem}
 use Rattle.rules.specs.Steps.{portion, lengthAt, unlink, link, setLeft, clearLeft, markFree, markUsed, oneChunk, returnExcess, takeChunk, emptied, leftFree, rightFree, merge, merged, releaseChunk}
 use Rattle.rules.specs.Search.{Found, nowhere, lost}
 use Rattle.rules.specs.Search as rule
-use Rattle.rules.specs.Rules.{Figures, Outcome, says, byteOf, nameOf, one, choose, listed, counted, released, letGo, withoutCache, firstFit, took, fromMerged, fromList, fromCache, serve, handOut, live, settled, takeBack}
+use Rattle.rules.specs.Rules.{Figures, Outcome, says, byteOf, nameOf, one, never, choose, listed, counted, released, letGo, withoutCache, firstFit, took, fromMerged, fromList, fromCache, serve, handOut, live, settled, takeBack}
 use Rattle.rules.specs.Rules as rules
 use Rattle.rules.specs.Making.{State, make, fresh}
 use Rattle.rules.specs.Demands.{hand, back}
@@ -41,7 +41,7 @@ use Rattle.heap.specs.declared.record.Record.{Record}
 use Rattle.heap.specs.declared.kind.Kind.{Kind}
 use Rattle.heap.specs.declared.kind.Kind.the-variants.{One, Four}
 use Rattle.heap.specs.declared.calls.Answer.{Answer}
-use Rattle.heap.specs.declared.calls.Answer.the-variants.{Done, ZeroSize, TooLarge, NoFit, NotLive, Damaged, BadLength}
+use Rattle.heap.specs.declared.calls.Answer.the-variants.{Done, ZeroSize, TooLarge, NoFit, NotLive, Damaged, BadLength, NeverFits}
 use Rattle.heap.specs.Seen.{seen, base, figuresOf, withCached, countedIn, countedOut, emptyRecord, freshRecord, FourPlaces}
 use Rattle.heap.specs.Kind.{placesOf}
 use Rattle.steps.specs.Chunk.{freedIn, freed, leftFreeIn, rightFreeIn, emptiedIn, Releasable}
@@ -465,10 +465,20 @@ module _ (places : ℕ) (r : Record) (ws : List ℕ) where
   unfolding handOut
   hand-damaged size b h k e f = rw (ne-eqb _ _ h, le-ltb _ _ k, sym e ∙ f) refl
 
-  pub hand-served : (size z v : ℕ) (b : Bool) (o : Outcome State) → (size ≡ 0 → ⊥) → size ≤ 4294967284 → b ≡ soundAt places (seen r ws) → b ≡ true
-      → v ≡ roundedOf size → z ≡ v → o ≡ serve base (seen r ws) z → o ≡ hand base 65529 places (seen r ws) size
+  -- it can never fit, or it may
+  pub hand-never : (size z v : ℕ) (b d : Bool) → (size ≡ 0 → ⊥) → size ≤ 4294967284 → b ≡ soundAt places (seen r ws) → b ≡ true → v ≡ roundedOf size → z ≡ v
+      → d ≡ never (length ws) z → d ≡ true → outcome NeverFits (seen r ws) ≡ hand base 65529 places (seen r ws) size
   unfolding handOut
-  hand-served size z v b o h k e f ev ez eo = rw (ne-eqb _ _ h, le-ltb _ _ k, sym e ∙ f, ← ev, ← ez) eo
+  hand-never size z v b d h k e f ev ez ed fd =
+      let n : never (length ws) (roundedOf size) ≡ true = ap (never (length ws)) (sym (ez ∙ ev)) ∙ sym ed ∙ fd in
+      rw (ne-eqb _ _ h, le-ltb _ _ k, sym e ∙ f, n) refl
+
+  pub hand-served : (size z v : ℕ) (b d : Bool) (o : Outcome State) → (size ≡ 0 → ⊥) → size ≤ 4294967284 → b ≡ soundAt places (seen r ws) → b ≡ true
+      → v ≡ roundedOf size → z ≡ v → d ≡ never (length ws) z → d ≡ false → o ≡ serve base (seen r ws) z → o ≡ hand base 65529 places (seen r ws) size
+  unfolding handOut
+  hand-served size z v b d o h k e f ev ez ed fd eo =
+      let n : never (length ws) (roundedOf size) ≡ false = ap (never (length ws)) (sym (ez ∙ ev)) ∙ sym ed ∙ fd in
+      rw (ne-eqb _ _ h, le-ltb _ _ k, sym e ∙ f, n, ← ev, ← ez) eo
 
   pub back-damaged : (p : ℕ) (b : Bool) → b ≡ soundAt places (seen r ws) → b ≡ false → outcome Damaged (seen r ws) ≡ back base 65529 places (seen r ws) p
   unfolding takeBack
@@ -495,6 +505,36 @@ module _ (places : ℕ) (r : Record) (ws : List ℕ) where
       let d′ : live base (seen r ws) p ≡ 0 → ⊥ = λ k. d (en ∙ k) in
       let h : u ≡ r .«in_use» - live base (seen r ws) p = eu ∙ ap (λ (k : ℕ). r .«in_use» - k) en in
       rw (sym e ∙ f, ne-eqb _ _ d′) (ap (says 0 0 0) (eq ∙ rw (em, el, h) refl))
+
+-- a threshold is a multiple of 8, so that quarters compare as the whole does
+threshold-8 : (z : ℕ) → z % 8 ≡ 0 → thresholdOf z % 8 ≡ 0
+threshold-8 z h = go (leb 512 z) (leb 256 z) (leb 128 z) (leb 64 z) (leb 32 z)
+  where
+    go : (a b c d e : Bool) → pick a z (pick b 512 (pick c 256 (pick d 128 (pick e 64 32)))) % 8 ≡ 0
+    go true b c d e = h
+    go false true c d e = refl
+    go false false true d e = refl
+    go false false false true e = refl
+    go false false false false true = refl
+    go false false false false false = refl
+
+pub never-by : (n z m t : ℕ) → z % 8 ≡ 0 → m ≡ n - 1 → t ≡ thresholdOf z → ltb m (t / 4) ≡ never n z
+never-by n z m t h em et = go (ltb m (t / 4)) refl
+  where
+    eights : t % 8 ≡ 0
+    eights = ap (λ (k : ℕ). k % 8) et ∙ threshold-8 z h
+
+    go : (b : Bool) → ltb m (t / 4) ≡ b → b ≡ never n z
+    go true e =
+        let k = ltb-true m (t / 4) e in
+        let u = eights in
+        let i : 4 * (n - 1) < t = omega arith in
+        sym (ap (ltb (4 * (n - 1))) (sym et) ∙ lt-ltb (4 * (n - 1)) t i)
+    go false e =
+        let k = ltb-false m (t / 4) e in
+        let u = eights in
+        let i : t ≤ 4 * (n - 1) = omega arith in
+        sym (ap (ltb (4 * (n - 1))) (sym et) ∙ le-ltb (4 * (n - 1)) t i)
 
 -- what a kind's audit passed may be served
 pub rounded-served : (k : Kind) (r : Record) (ws : List ℕ) (size v : ℕ) (b : Bool)

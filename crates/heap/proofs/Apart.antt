@@ -13,7 +13,7 @@ use Rattle.rules.specs.Rules.{Figures, Outcome}
 use Rattle.rules.specs.Making.{State}
 use Rattle.heap.specs.declared.record.Record.{Record}
 use Rattle.heap.specs.declared.calls.Answer.{Answer}
-use Rattle.heap.specs.declared.calls.Answer.the-variants.{Done, ZeroSize, TooLarge, NoFit, NotLive, Damaged, BadLength}
+use Rattle.heap.specs.declared.calls.Answer.the-variants.{Done, ZeroSize, TooLarge, NoFit, NotLive, Damaged, BadLength, NeverFits}
 use Rattle.heap.specs.declared.calls.Out.{Out}
 use Rattle.heap.specs.Seen.{seen, FourPlaces}
 use Rattle.heap.specs.Answer.{number, value, compared, outcome}
@@ -68,7 +68,8 @@ answer-of (suc (suc zero)) v c = TooLarge
 answer-of (suc (suc (suc zero))) v c = NoFit c
 answer-of (suc (suc (suc (suc zero)))) v c = NotLive
 answer-of (suc (suc (suc (suc (suc zero))))) v c = Damaged
-answer-of (suc (suc (suc (suc (suc (suc n)))))) v c = BadLength
+answer-of (suc (suc (suc (suc (suc (suc zero)))))) v c = BadLength
+answer-of (suc (suc (suc (suc (suc (suc (suc n))))))) v c = NeverFits
 
 answer-back : (a : Answer) → answer-of (number a) (value a) (compared a) ≡ a
 answer-back (Done p c) = refl
@@ -78,6 +79,7 @@ answer-back (NoFit c) = refl
 answer-back NotLive = refl
 answer-back Damaged = refl
 answer-back BadLength = refl
+answer-back NeverFits = refl
 
 -- answer, record and words are known by the outcome
 pub outcome-same : (o p : Out) (ws vs : List ℕ) → FourPlaces (o .rec) → FourPlaces (p .rec)

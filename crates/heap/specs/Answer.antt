@@ -1,4 +1,4 @@
--- DOCUMENT 01'S ANSWER NUMBERS: of each case of the answer its number, value and compared count; and an answer beside the state after the call as the
+-- DOCUMENT 01'S ANSWER NUMBERS: of each case of the answer its number, value and compared count; and an answer and the state after the call as the
 -- rules' outcome.
 use mathlib.Core.Path.{_≡_}
 use mathlib.Core.Bool.{Bool, true}
@@ -9,7 +9,7 @@ use Rattle.rules.specs.Making.{State}
 use Rattle.rules.specs.Machine as rule
 use Rattle.rules.specs.Test.{soundᵇ}
 use Rattle.heap.specs.declared.calls.Answer.{Answer}
-use Rattle.heap.specs.declared.calls.Answer.the-variants.{Done, ZeroSize, TooLarge, NoFit, NotLive, Damaged, BadLength}
+use Rattle.heap.specs.declared.calls.Answer.the-variants.{Done, ZeroSize, TooLarge, NoFit, NotLive, Damaged, BadLength, NeverFits}
 use Rattle.heap.specs.Seen.{base}
 
 -- of each case its number; what is returned, the payload's offset for a handout, 0 otherwise; and how many free chunks were compared with the rounded size
@@ -21,6 +21,7 @@ said (NoFit c) = record { number = 3; value = 0; compared = c }
 said NotLive = record { number = 4; value = 0; compared = 0 }
 said Damaged = record { number = 5; value = 0; compared = 0 }
 said BadLength = record { number = 6; value = 0; compared = 0 }
+said NeverFits = record { number = 8; value = 0; compared = 0 }
 
 -- its number
 abbrev pub number : Answer → ℕ
@@ -34,11 +35,11 @@ value a = said a .value
 abbrev pub compared : Answer → ℕ
 compared a = said a .compared
 
--- an answer beside the state after the call, as the rules' outcome
+-- an answer and the state after the call, as the rules' outcome
 abbrev pub outcome : Answer → State → Outcome State
 outcome a s = says (number a) (value a) (compared a) s
 
--- the test that answer 5 goes by, with so many cache places
+-- the test behind answer 5, with this many cache places
 abbrev pub soundAt : ℕ → State → Bool
 soundAt places s = soundᵇ base 65529 places s
 

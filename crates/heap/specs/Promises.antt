@@ -2,9 +2,10 @@
 -- demands (proofs/Demands.antt) speak of nothing else.
 use mathlib.Core.Path.{_≡_}
 use mathlib.Core.List.{List, [], _∷_}
-use Prim.Native.Nat.{ℕ}
+use Prim.Native.Nat.{ℕ, _-_, _*_, _<_}
 use lib.ListN.{length, set}
 use Rattle.words.specs.Links.{narrow}
+use Rattle.words.specs.Sizes.{thresholdOf}
 use Rattle.rules.specs.Making.{make}
 use Rattle.rules.specs.Rules.{handOut, takeBack, live}
 use Rattle.rules.specs.Sound.{Shows, Sound}
@@ -25,6 +26,10 @@ Makes ws o vs = outcome (o .answer) (seen (o .rec) vs) ≡ make narrow 65529 ws
 -- LIVE: the length of the live chunk whose payload begins at offset p; 0 where none does
 abbrev pub liveIn : Record → List ℕ → ℕ → ℕ
 liveIn r ws p = live base (seen r ws) p
+
+-- NEVER: the threshold for z bytes exceeds the heap's bytes less 4
+abbrev pub NeverIn : List ℕ → ℕ → Type 0
+NeverIn ws z = 4 * (length ws - 1) < thresholdOf z
 
 module _ (places : ℕ) where
   -- asked for a size, the record r over the words ws gives o and the words vs
@@ -48,7 +53,7 @@ module _ (places : ℕ) where
   abbrev pub SoundIn : Record → List ℕ → Type 0
   SoundIn r ws = Sound base 65529 places (seen r ws)
 
-  -- nothing fits z bytes: they are sound, no cached chunk serves, and no free chunk of the layout with the cache emptied reaches the threshold
+  -- nothing fits z bytes, but may at another time: they are sound, no cached chunk serves, and no free chunk of the layout with the cache emptied reaches the threshold
   abbrev pub UnfitIn : Record → List ℕ → ℕ → Type 0
   UnfitIn r ws z = Unfit base 65529 places (seen r ws) z
 

@@ -94,8 +94,9 @@ noneCached = replicate 4 (link 0)
 
 -- the empty record, and the record of a heap of n words whose lists are empty
 abbrev pub emptyRecord : Record
-emptyRecord = let none = replicate 6 (link 0) in
-    record { prev = none; next = none; cached = noneCached; words = 0; «in_use» = 0; committed = 0; peak = 0; high = 0; fresh = 0 }
+emptyRecord =
+    let nil : Link = record { 0 = 0 } in
+    record { prev = replicate 6 nil; next = replicate 6 nil; cached = replicate 4 nil; words = 0; «in_use» = 0; committed = 0; peak = 0; high = 0; fresh = 0 }
 
 abbrev pub freshRecord : ℕ → Record
 freshRecord n =

@@ -1,12 +1,13 @@
 // The three public calls: make (mcu_heap_init), hand_out (mcu_malloc) and take_back (mcu_free), and the audit that they go by.
 //
-// Each refuses by number, in document 01's order of tests, before it writes anything; what follows a passed audit is heap.rs.
+// Each refuses by number, in document 01's order of tests, and a refusal leaves every word as it was: it comes before anything is written, or, where the
+// cache was emptied for nothing, the words are put back. What follows a passed audit is heap.rs, but for that emptying and for `never`.
 ghost use mathlib.Core.Path.{_≡_};
 ghost use mathlib.Core.Bool.{true};
 ghost use mathlib.Core.List.{[], _∷_, _++_};
 ghost use Prim.Native.Nat.{_-_, _*_, _≤_, _<_, _%_};
 ghost use lib.ListN.{length};
-ghost use Rattle.rules.specs.Rules.{withoutCache, firstFit, took, fromMerged, fromList, serve, settled, live};
+ghost use Rattle.rules.specs.Rules.{never, withoutCache, firstFit, took, fromMerged, fromList, serve, settled, live};
 ghost use Rattle.rules.specs.Steps.{oneChunk};
 ghost use Rattle.heap.specs.Seen.{seen, base, cachedIn};
 ghost use Rattle.heap.specs.Kind.{placesOf};
@@ -26,17 +27,27 @@ pub enum Answer {
     Done(ByteOffset, u32),
     ZeroSize,
     TooLarge,
-    // no fit, and how many free chunks were compared
+    // no fit now, and how many free chunks were compared
     NoFit(u32),
     NotLive,
     Damaged,
     BadLength,
+    // no fit ever: no heap of this length can serve it
+    NeverFits,
 }
 
 // An answer, and the record after the call.
 pub struct Out {
     pub answer: Answer,
     pub rec: Record,
+}
+
+// Whether no heap of so many words can ever serve a rounded size. Thresholds are multiples of 8, so words compare as bytes do.
+fn never(n: usize, z: u32) -> bool
+    requires { ⌜ z % 8 ≡ 0 ⌝ }
+    ensures { λ r. ⌜ r ≡ never n z ⌝ }
+{
+    words::monus(n, 1) < (words::threshold(z) / 4) as usize
 }
 
 impl Record {
@@ -114,6 +125,13 @@ impl Record {
             };
         }
         let z = words::rounded_size(size) as u32;
+        let hopeless = never(heap.len(), z);
+        if hopeless {
+            return Out {
+                answer: Answer::NeverFits,
+                rec: self,
+            };
+        }
         self.serve(heap, z)
     }
 

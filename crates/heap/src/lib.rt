@@ -7,7 +7,7 @@
 //     lists     link_chunk, unlink_chunk
 //     merge     merge_neighbor_if_possible, and the rest of releasing a chunk
 //     split     return_excess_to_free_list, and the rest of taking one
-//     undo      releasing so that it can be undone
+//     undo      releasing, and emptying the cache, so that it can be undone
 //     calls     mcu_heap_init, mcu_malloc and mcu_free: make, hand_out, take_back
 //
 // What needs no record (the search, the tags of a free chunk, emptying, the walk of the tiling) is in crate `steps`.

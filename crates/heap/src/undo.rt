@@ -1,4 +1,4 @@
-// Releasing so that it can be undone: each step notes the words that it will overwrite, then does what its plain twin does.
+// Releasing a chunk, and emptying the cache, so that it can be undone: each step notes the words that it will overwrite, then does what its plain twin does.
 //
 // `steps::put_back` gives every word as it was. The record needs no notes: it is passed by value, so the caller still has it. That the notes suffice
 // is shown of any words, sound or not.

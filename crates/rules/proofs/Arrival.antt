@@ -17,7 +17,7 @@ use Rattle.rules.specs.Exact.{slot}
 use Rattle.rules.specs.Search.{Found, at, nowhere, lost}
 use Rattle.rules.specs.Place.{UsedAt, lenAt, usedAt}
 use Rattle.rules.specs.Rules.{Figures, Outcome, says, byteOf, nameOf, Chosen, none, one, choose, counted, withoutCache, fromMerged, fromList, fromCache}
-use Rattle.rules.specs.Rules.{serve, handOut}
+use Rattle.rules.specs.Rules.{never, serve, handOut}
 use Rattle.rules.specs.Machine.{Model, sizeM, tookM, searched, searchM, withoutCacheM, fromMergedM, fromListM, fromCacheM, handOutM}
 use Rattle.rules.specs.Sound.{Shows}
 use Rattle.rules.specs.Test.{soundᵇ}
@@ -136,21 +136,23 @@ module _ {S : Type 0} {op : Ops S Figures} {most places : ℕ} (E : Edition op m
 
     hand-arrives : (size : ℕ) → Served (hand op most places s size) (handOutM m size)
     unfolding handOut handOutM
-    hand-arrives size = rw (true-sound E s (m, h)) (go (eqb size 0) (ltb 4294967284 size))
+    hand-arrives size = rw (true-sound E s (m, h), ← (h .words)) (go (eqb size 0) (ltb 4294967284 size) (never (m .figs .words) (roundedOf size)))
       where
-        go : (a b : Bool)
-            → Served (pick a (says 1 0 0 s) (pick b (says 2 0 0 s) (serve op s (roundedOf size))))
-            (pick a (says 1 0 0 m) (pick b (says 2 0 0 m) (fromCacheM m (roundedOf size) (choose (sizeM m) (roundedOf size) (m .figs .cached)))))
-        go true b = λ q. absurd (let u : _≡_ {A = ℕ} 1 0 = q in omega arith)
-        go false true = λ q. absurd (let u : _≡_ {A = ℕ} 2 0 = q in omega arith)
-        go false false = serve-arrives (roundedOf size) (r16 size) (r8 size)
+        go : (a b c : Bool)
+            → Served (pick a (says 1 0 0 s) (pick b (says 2 0 0 s) (pick c (says 8 0 0 s) (serve op s (roundedOf size)))))
+            (pick a (says 1 0 0 m) (pick b (says 2 0 0 m) (pick c (says 8 0 0 m)
+            (fromCacheM m (roundedOf size) (choose (sizeM m) (roundedOf size) (m .figs .cached))))))
+        go true b c = λ q. absurd (let u : _≡_ {A = ℕ} 1 0 = q in omega arith)
+        go false true c = λ q. absurd (let u : _≡_ {A = ℕ} 2 0 = q in omega arith)
+        go false false true = λ q. absurd (let u : _≡_ {A = ℕ} 8 0 = q in omega arith)
+        go false false false = serve-arrives (roundedOf size) (r16 size) (r8 size)
 
   -- only a sound state is served
   served-sound : (s : S) (size : ℕ) → hand op most places s size .number ≡ 0 → soundᵇ op most places s ≡ true
   served-sound s size =
       hand-cases op places (soundᵇ op most places) s size (λ o. o .number ≡ 0 → soundᵇ op most places s ≡ true)
       (λ e q. absurd (let u : _≡_ {A = ℕ} 1 0 = q in omega arith)) (λ e q. absurd (let u : _≡_ {A = ℕ} 2 0 = q in omega arith))
-      (λ a b e q. absurd (let u : _≡_ {A = ℕ} 5 0 = q in omega arith)) (λ a b e q. e)
+      (λ a b e q. absurd (let u : _≡_ {A = ℕ} 5 0 = q in omega arith)) (λ a b e k q. e) (λ a b e k q. e)
 
   -- two models with one layout and the same figures
   live-same : (m n : Model) (p k : ℕ) → m .cs ≡ n .cs → m .figs ≡ n .figs → LiveAt m p k → LiveAt n p k

@@ -22,7 +22,7 @@ use Rattle.rules.specs.Ops.{Ops}
 use Rattle.rules.specs.Steps.{lengthAt, leftFree, rightFree}
 use Rattle.rules.specs.Chunks.{Chunk, free, busy, total, Legal, usedSum}
 use Rattle.rules.proofs.Chunks.{total-append}
-use Rattle.rules.specs.Exact.{slot, In, frees}
+use Rattle.rules.specs.Exact.{slot, frees}
 use Rattle.rules.specs.Tags.{Tags}
 use Rattle.rules.proofs.Tags.{tags-back}
 use Rattle.rules.proofs.Part.{legal-front, legal-back}
@@ -168,7 +168,7 @@ module _ {S : Type 0} {op : Ops S Figures} {most places : ℕ} (E : Edition op m
         met-few z c (omega arith)
 
     -- a free chunk, and its place
-    free-place : (z x c n : ℕ) → z ≤ lengthAt op s x → c ≤ op .count s / 4 → In (slot x n) (frees 0 (m .cs)) → FoundFits op s z x c
+    free-place : (z x c n : ℕ) → z ≤ lengthAt op s x → c ≤ op .count s / 4 → Mem (slot x n) (frees 0 (m .cs)) → FoundFits op s z x c
     free-place z x c n zn cn i =
         let f = free-at 0 (m .cs) (slot x n) i in
         let w = subst (λ cs. Whole (L E s m h) classOf class-below s (m .orders) cs) (f .is) (whole E s m h) in

@@ -6,7 +6,7 @@ use mathlib.Core.Bool.{true}
 use mathlib.Core.List.{List, [], _∷_, _++_, List·Memᴰ·head, Memᴰ·append-right}
 use Prim.Native.Nat.{ℕ, _+_, _-_, _/_, _%_, _≤_, _<_}
 use native.Mathlib.Omega.{arith}
-use Rattle.rules.specs.Lists.{put, remove}
+use Rattle.rules.specs.Lists.{put, remove, Mem}
 use Rattle.rules.proofs.Lists.{remove-middle, around, Around, before-after}
 use Rattle.rules.specs.Ops.{Ops}
 use Rattle.rules.specs.Steps.{link, unlink}
@@ -14,7 +14,7 @@ use Rattle.rules.proofs.Bytes.{cutUsed, oneFree, wholeUsed}
 use Rattle.rules.proofs.Store.{LinkStore}
 use Rattle.rules.specs.Chunks.{Chunk, free, busy, total, Legal}
 use Rattle.rules.proofs.Chunks.{total-append}
-use Rattle.rules.specs.Exact.{Slot, slot, In, frees}
+use Rattle.rules.specs.Exact.{Slot, slot, frees}
 use Rattle.rules.proofs.Exact.{frees-append, Alone, in-middle}
 use Rattle.rules.proofs.Tags.{lastUsed}
 use Rattle.rules.proofs.Part.{Part, legal-front, legal-back, outside, outside-alone, part-unlink, part-link}
@@ -185,7 +185,7 @@ module _ {S R : Type 0} {op : Ops S R} (L : LinkStore op) (cls : ℕ → ℕ) (c
           (λ t i q. two t q (in-middle t (frees 0 pre) (slot ((b + f + n) / 4 + 6) g) (frees (b + (f + (n + g))) post) i) al (omega arith))
           (rw (frees-append 0 pre (free f ∷ busy n ∷ free g ∷ post), e) at w)
         where
-          two : (t : Slot) → t .name ≡ b / 4 + 6 → (t ≡ slot ((b + f + n) / 4 + 6) g) ⊎ In t (frees 0 pre ++ frees (b + (f + (n + g))) post)
+          two : (t : Slot) → t .name ≡ b / 4 + 6 → (t ≡ slot ((b + f + n) / 4 + 6) g) ⊎ Mem t (frees 0 pre ++ frees (b + (f + (n + g))) post)
               → Alone (b / 4 + 6) (frees 0 pre ++ frees (b + (f + (n + g))) post) → b / 4 < (b + f + n) / 4 → ⊥
           two t q (inl r) al h = let y : t .name ≡ (b + f + n) / 4 + 6 = ap (λ (u : Slot). u .name) r in omega arith
           two t q (inr i) al h = al t i q

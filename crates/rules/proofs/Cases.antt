@@ -3,37 +3,40 @@ use mathlib.Core.Path.{_≡_, refl, subst}
 use mathlib.Core.Logic.{_≢_}
 use mathlib.Core.Bool.{Bool, true, false}
 use mathlib.Core.List.{List, [], _∷_, _++_}
-use Prim.Native.Nat.{ℕ, _+_, _-_, _≤_, _<_}
+use Prim.Native.Nat.{ℕ, _+_, _-_, _*_, _≤_, _<_}
 use native.Mathlib.Omega.{arith}
 use lib.Dec.{eqb, ltb}
 use borrow.Author.Tests.{eqb-true, eqb-false, ltb-true, ltb-false}
 use Rattle.words.specs.Choice.{pick}
-use Rattle.words.specs.Sizes.{roundedOf}
+use Rattle.words.specs.Sizes.{roundedOf, thresholdOf}
 use Rattle.rules.specs.Ops.{Ops}
 use Rattle.rules.specs.Steps.{lengthAt}
 use Rattle.rules.specs.Search.{Found, at, nowhere, lost}
 use Rattle.rules.proofs.Search.{find-fits, Fits}
-use Rattle.rules.specs.Rules.{Figures, Outcome, says, byteOf, nameOf, Chosen, none, one, choose, withCached, withoutCache, firstFit, fromMerged}
+use Rattle.rules.specs.Rules.{Figures, Outcome, says, byteOf, nameOf, Chosen, none, one, never, choose, withCached, withoutCache, firstFit, fromMerged}
 use Rattle.rules.specs.Rules.{fromList, fromCache, serve, handOut, live, settled, takeBack}
 use Rattle.rules.specs.Machine.{Model, sizeM, tookM, searched, searchM, withoutCacheM, fromMergedM, fromListM, fromCacheM, handOutM, liveM, settledM}
 use Rattle.rules.specs.Machine.{takeBackM}
 use Rattle.rules.proofs.Follow.{choose-picked, Picked}
 
 module _ {S : Type 0} (op : Ops S Figures) (places : ℕ) (sound : S → Bool) (s : S) where
-  -- HANDING OUT: 1, 2, 5, or served
+  -- HANDING OUT: 1, 2, 5, 8, or served
   pub hand-cases : (size : ℕ) (P : Outcome S → Type 0) → (size ≡ 0 → P (says 1 0 0 s)) → (4294967284 < size → P (says 2 0 0 s))
-      → (0 < size → size ≤ 4294967284 → sound s ≡ false → P (says 5 0 0 s)) →
-      (0 < size → size ≤ 4294967284 → sound s ≡ true → P (serve op s (roundedOf size)))
+      → (0 < size → size ≤ 4294967284 → sound s ≡ false → P (says 5 0 0 s))
+      → (0 < size → size ≤ 4294967284 → sound s ≡ true → 4 * (op .count s - 1) < thresholdOf (roundedOf size) → P (says 8 0 0 s))
+      → (0 < size → size ≤ 4294967284 → sound s ≡ true → thresholdOf (roundedOf size) ≤ 4 * (op .count s - 1) → P (serve op s (roundedOf size)))
       → P (handOut op sound s size)
   unfolding handOut
-  hand-cases size P zero large bad fine = go (eqb size 0) refl (ltb 4294967284 size) refl (sound s) refl
+  hand-cases size P zero large bad unfit fine = go (eqb size 0) refl (ltb 4294967284 size) refl (sound s) refl (never (op .count s) (roundedOf size)) refl
     where
-      go : (a : Bool) → eqb size 0 ≡ a → (b : Bool) → ltb 4294967284 size ≡ b → (t : Bool) → sound s ≡ t
-          → P (pick a (says 1 0 0 s) (pick b (says 2 0 0 s) (pick t (serve op s (roundedOf size)) (says 5 0 0 s))))
-      go true e b f t g = zero (eqb-true size 0 e)
-      go false e true f t g = large (ltb-true 4294967284 size f)
-      go false e false f false g = let n = eqb-false size 0 e in bad (omega arith) (ltb-false 4294967284 size f) g
-      go false e false f true g = let n = eqb-false size 0 e in fine (omega arith) (ltb-false 4294967284 size f) g
+      go : (a : Bool) → eqb size 0 ≡ a → (b : Bool) → ltb 4294967284 size ≡ b → (t : Bool) → sound s ≡ t → (v : Bool)
+          → never (op .count s) (roundedOf size) ≡ v
+          → P (pick a (says 1 0 0 s) (pick b (says 2 0 0 s) (pick t (pick v (says 8 0 0 s) (serve op s (roundedOf size))) (says 5 0 0 s))))
+      go true e b f t g v i = zero (eqb-true size 0 e)
+      go false e true f t g v i = large (ltb-true 4294967284 size f)
+      go false e false f false g v i = let n = eqb-false size 0 e in bad (omega arith) (ltb-false 4294967284 size f) g
+      go false e false f true g true i = let n = eqb-false size 0 e in unfit (omega arith) (ltb-false 4294967284 size f) g (ltb-true _ _ i)
+      go false e false f true g false i = let n = eqb-false size 0 e in fine (omega arith) (ltb-false 4294967284 size f) g (ltb-false _ _ i)
 
   -- served: from the cache or a list; or no fit; or the search is lost
   pub serve-cases : (z : ℕ) (P : Outcome S → Type 0) → ((x : ℕ) (t : S) → P (says 0 (byteOf x + 4) 0 t)) → ((x c : ℕ) (t : S) → P (says 0 (byteOf x + 4) c t))
@@ -74,15 +77,20 @@ module _ {S : Type 0} (op : Ops S Figures) (places : ℕ) (sound : S → Bool) (
 module _ (m : Model) where
   -- the same without memory
   pub handM-cases : (size : ℕ) (P : Outcome Model → Type 0) → (size ≡ 0 → P (says 1 0 0 m)) → (4294967284 < size → P (says 2 0 0 m))
-      → (0 < size → size ≤ 4294967284 → P (fromCacheM m (roundedOf size) (choose (sizeM m) (roundedOf size) (m .figs .cached)))) → P (handOutM m size)
+      → (0 < size → size ≤ 4294967284 → 4 * (m .figs .words - 1) < thresholdOf (roundedOf size) → P (says 8 0 0 m))
+      → (0 < size → size ≤ 4294967284 → thresholdOf (roundedOf size) ≤ 4 * (m .figs .words - 1)
+      → P (fromCacheM m (roundedOf size) (choose (sizeM m) (roundedOf size) (m .figs .cached))))
+      → P (handOutM m size)
   unfolding handOutM
-  handM-cases size P zero large fine = go (eqb size 0) refl (ltb 4294967284 size) refl
+  handM-cases size P zero large unfit fine = go (eqb size 0) refl (ltb 4294967284 size) refl (never (m .figs .words) (roundedOf size)) refl
     where
-      go : (a : Bool) → eqb size 0 ≡ a → (b : Bool) → ltb 4294967284 size ≡ b
-          → P (pick a (says 1 0 0 m) (pick b (says 2 0 0 m) (fromCacheM m (roundedOf size) (choose (sizeM m) (roundedOf size) (m .figs .cached)))))
-      go true e b f = zero (eqb-true size 0 e)
-      go false e true f = large (ltb-true 4294967284 size f)
-      go false e false f = let n = eqb-false size 0 e in fine (omega arith) (ltb-false 4294967284 size f)
+      go : (a : Bool) → eqb size 0 ≡ a → (b : Bool) → ltb 4294967284 size ≡ b → (v : Bool) → never (m .figs .words) (roundedOf size) ≡ v
+          → P (pick a (says 1 0 0 m) (pick b (says 2 0 0 m) (pick v (says 8 0 0 m)
+          (fromCacheM m (roundedOf size) (choose (sizeM m) (roundedOf size) (m .figs .cached))))))
+      go true e b f v i = zero (eqb-true size 0 e)
+      go false e true f v i = large (ltb-true 4294967284 size f)
+      go false e false f true i = let n = eqb-false size 0 e in unfit (omega arith) (ltb-false 4294967284 size f) (ltb-true _ _ i)
+      go false e false f false i = let n = eqb-false size 0 e in fine (omega arith) (ltb-false 4294967284 size f) (ltb-false _ _ i)
 
   pub serveM-cases : (z : ℕ) (P : Outcome Model → Type 0)
       → ((x : ℕ) (ks : List ℕ) → Picked (sizeM m) z (m .figs .cached) (one x ks) → P

@@ -17,7 +17,7 @@ use Rattle.rules.specs.Chunks.{Chunk, total, Legal, Calm, usedHead, used
 use Rattle.rules.specs.Test.{either}
 use Rattle.rules.specs.Tags.{Tags, headTag}
 use Rattle.rules.proofs.Tags.{Foot}
-use Rattle.rules.specs.Exact.{Slot, slot, In, frees, Exact}
+use Rattle.rules.specs.Exact.{Slot, slot, frees, Exact}
 use Rattle.rules.specs.Place.{usedAt}
 use Rattle.words.specs.Sizes.{classOf}
 use Rattle.words.proofs.Laws.Sizes.{class-below}
@@ -122,20 +122,20 @@ tells-listed x ks = record { to = listed-true x ks; from = λ m. go (listed x ks
     go true e m = refl
     go false e m = absurd (listed-false x ks e m)
 
-tells-slot : (x k : ℕ) (F : List Slot) → Tells (slotᵇ x k F) ((n : ℕ) × In (slot x n) F × (classOf n ≡ k))
+tells-slot : (x k : ℕ) (F : List Slot) → Tells (slotᵇ x k F) ((n : ℕ) × Mem (slot x n) F × (classOf n ≡ k))
 unfolding slotᵇ
 tells-slot x k [] = record { to = λ e. absurd (let z : _≡_ {A = ℕ} 0 1 = cc in omega arith); from = λ p. absurd (List·Memᴰ·not-nil (p .1)) }
 tells-slot x k (t ∷ F) =
     go (both (eqb x (t .name)) (eqb (classOf (t .len)) k)) (tells-and (tells-eq x (t .name)) (tells-eq (classOf (t .len)) k)) (tells-slot x k F)
   where
-    not-here : (b : Bool) → Tells b ((x ≡ t .name) × (classOf (t .len) ≡ k)) → b ≡ false → (n : ℕ) → In (slot x n) (t ∷ F) → classOf n ≡ k → In (slot x n) F
+    not-here : (b : Bool) → Tells b ((x ≡ t .name) × (classOf (t .len) ≡ k)) → b ≡ false → (n : ℕ) → Mem (slot x n) (t ∷ F) → classOf n ≡ k → Mem (slot x n) F
     not-here b s e n (List·Memᴰ·head q) c =
         let u : b ≡ true = s .from (ap (λ (s : Slot). s .name) q, ap (λ (s : Slot). classOf (s .len)) (sym q) ∙ c) in
         absurd (let z : _≡_ {A = ℕ} 0 1 = cc in omega arith)
     not-here b s e n (List·Memᴰ·tail m) c = m
 
-    go : (b : Bool) → Tells b ((x ≡ t .name) × (classOf (t .len) ≡ k)) → Tells (slotᵇ x k F) ((n : ℕ) × In (slot x n) F × (classOf n ≡ k))
-        → Tells (either b (slotᵇ x k F)) ((n : ℕ) × In (slot x n) (t ∷ F) × (classOf n ≡ k))
+    go : (b : Bool) → Tells b ((x ≡ t .name) × (classOf (t .len) ≡ k)) → Tells (slotᵇ x k F) ((n : ℕ) × Mem (slot x n) F × (classOf n ≡ k))
+        → Tells (either b (slotᵇ x k F)) ((n : ℕ) × Mem (slot x n) (t ∷ F) × (classOf n ≡ k))
     go true s r = record { to = λ e. let p = s .to refl in (t .len, List·Memᴰ·head (λ i. record { name = p .0 i; len = t .len }), p .1); from = λ p. refl }
     go false s r = record {
       to = λ e. let p = r .to e in (p .0, List·Memᴰ·tail (p .1), p .2);
@@ -151,8 +151,8 @@ tells-exact O F =
     (tells-and
     (tells-every (λ t. listed (t .name) (O (classOf (t .len)))) (λ (t : Slot). Mem (t .name) (O (classOf (t .len))))
     (λ t. tells-listed (t .name) (O (classOf (t .len)))) F)
-    (tells-below (λ k. everyᵇ (λ x. slotᵇ x k F) (O k)) (λ k. (x : ℕ) → Mem x (O k) → (n : ℕ) × In (slot x n) F × (classOf n ≡ k))
-    (λ k. tells-every (λ x. slotᵇ x k F) (λ (x : ℕ). (n : ℕ) × In (slot x n) F × (classOf n ≡ k)) (λ x. tells-slot x k F) (O k)) 6))
+    (tells-below (λ k. everyᵇ (λ x. slotᵇ x k F) (O k)) (λ k. (x : ℕ) → Mem x (O k) → (n : ℕ) × Mem (slot x n) F × (classOf n ≡ k))
+    (λ k. tells-every (λ x. slotᵇ x k F) (λ (x : ℕ). (n : ℕ) × Mem (slot x n) F × (classOf n ≡ k)) (λ x. tells-slot x k F) (O k)) 6))
 
 tells-not : {a : Bool} {P : Type 0} → Tells a P → Tells (not a) (P → ⊥)
 tells-not {a = true} t = record { to = λ e p. (let z : _≡_ {A = ℕ} 0 1 = cc in omega arith); from = λ f. absurd (f (t .to refl)) }

@@ -19,7 +19,7 @@ use Rattle.rules.specs.Ops.{Ops}
 use Rattle.rules.proofs.Store.{LinkStore}
 use Rattle.rules.specs.Chunks.{Chunk, free, total, Legal}
 use Rattle.rules.proofs.Chunks.{total-append}
-use Rattle.rules.specs.Exact.{Slot, slot, In, frees, Exact}
+use Rattle.rules.specs.Exact.{Slot, slot, frees, Exact}
 use Rattle.rules.proofs.Exact.{frees-from}
 use Rattle.rules.specs.Tags.{Tags}
 use Rattle.rules.proofs.Part.{legal-front, legal-back}
@@ -48,17 +48,17 @@ seg-distinct nx pv k (x ∷ xs) a h g = (twice, seg-distinct nx pv k xs x (λ m.
         mem-after′ (y ∷ ys) c m = List·Memᴰ·tail (mem-after′ ys c m)
 
 -- a name stands for one length: no test
-pub slot-unique : (b : ℕ) (cs : List Chunk) → Legal cs → (x n m : ℕ) → In (slot x n) (frees b cs) → In (slot x m) (frees b cs) → n ≡ m
+pub slot-unique : (b : ℕ) (cs : List Chunk) → Legal cs → (x n m : ℕ) → Mem (slot x n) (frees b cs) → Mem (slot x m) (frees b cs) → n ≡ m
 unfolding frees
 slot-unique b [] l x n m i j = absurd (List·Memᴰ·not-nil i)
 slot-unique b (c ∷ cs) l x n m i j = go (λ i j. slot-unique (b + c .len) cs (l .2) x n m i j) (c .used) i j
   where
-    later : (k : ℕ) → In (slot x k) (frees (b + c .len) cs) → b / 4 + 6 < x
+    later : (k : ℕ) → Mem (slot x k) (frees (b + c .len) cs) → b / 4 + 6 < x
     later k i = let r = frees-from (b + c .len) cs (l .2) (slot x k) i in let a = l .0 in omega arith
 
-    go : (In (slot x n) (frees (b + c .len) cs) → In (slot x m) (frees (b + c .len) cs) → n ≡ m)
-        → (u : Bool) → In (slot x n) (pick u (frees (b + c .len) cs) (slot (b / 4 + 6) (c .len) ∷ frees (b + c .len) cs))
-        → In (slot x m) (pick u (frees (b + c .len) cs) (slot (b / 4 + 6) (c .len) ∷ frees (b + c .len) cs)) → n ≡ m
+    go : (Mem (slot x n) (frees (b + c .len) cs) → Mem (slot x m) (frees (b + c .len) cs) → n ≡ m)
+        → (u : Bool) → Mem (slot x n) (pick u (frees (b + c .len) cs) (slot (b / 4 + 6) (c .len) ∷ frees (b + c .len) cs))
+        → Mem (slot x m) (pick u (frees (b + c .len) cs) (slot (b / 4 + 6) (c .len) ∷ frees (b + c .len) cs)) → n ≡ m
     go f true i j = f i j
     go f false (List·Memᴰ·head p) (List·Memᴰ·head q) = ap (λ (t : Slot). t .len) p ∙ sym (ap (λ (t : Slot). t .len) q)
     go f false (List·Memᴰ·head p) (List·Memᴰ·tail j) = let a = later m j in let q : x ≡ b / 4 + 6 = ap (λ (t : Slot). t .name) p in absurd (omega arith)

@@ -19,12 +19,12 @@ use Rattle.rules.specs.Ops.{Ops}
 use Rattle.rules.specs.State.{ops}
 use Rattle.rules.specs.Steps.{portion, lengthAt, takeChunk, emptied, releaseChunk}
 use Rattle.rules.specs.Chunks.{Chunk, free, busy, total, Legal, Calm, release}
-use Rattle.rules.specs.Exact.{slot, In, frees}
+use Rattle.rules.specs.Exact.{slot, frees}
 use Rattle.rules.specs.Orders.{freeHead, freeLast}
 use Rattle.rules.specs.Place.{usedAt}
 use Rattle.rules.specs.Search.{Found, at, nowhere, lost}
-use Rattle.rules.specs.Rules.{Figures, Outcome, says, byteOf, nameOf, Chosen, none, one, choose, withCached, released, letGo, emptyCache, withoutCache, fromMerged}
-use Rattle.rules.specs.Rules.{fromList, fromCache, serve, handOut, settled, takeBack}
+use Rattle.rules.specs.Rules.{Figures, Outcome, says, byteOf, nameOf, Chosen, none, one, never, choose, withCached, released, letGo, emptyCache, withoutCache}
+use Rattle.rules.specs.Rules.{fromMerged, fromList, fromCache, serve, handOut, settled, takeBack}
 use Rattle.rules.specs.Machine.{Model, ask, give, sizeM, searched, searchM, gaveM, emptyCacheM, withoutCacheM, liveM}
 use Rattle.rules.specs.Sound.{Shows, Sound}
 use Rattle.rules.specs.Test.{soundᵇ}
@@ -64,10 +64,10 @@ no-link m i h t u a b = go (h (t .name) (t .len) u)
     go w = let w0 = w .0 in let w1 = w .1 in omega arith
 
 -- a free chunk, by name and length
-free-in : (front : List Chunk) (n : ℕ) (back : List Chunk) → In (slot (nameOf (0 + total front)) n) (frees 0 (front ++ free n ∷ back))
+free-in : (front : List Chunk) (n : ℕ) (back : List Chunk) → Mem (slot (nameOf (0 + total front)) n) (frees 0 (front ++ free n ∷ back))
 unfolding frees
 free-in front n back =
-    subst (In (slot (nameOf (0 + total front)) n)) (sym (frees-append 0 front (free n ∷ back))) (Memᴰ·append-right (frees 0 front) (List·Memᴰ·head refl))
+    subst (Mem (slot (nameOf (0 + total front)) n)) (sym (frees-append 0 front (free n ∷ back))) (Memᴰ·append-right (frees 0 front) (List·Memᴰ·head refl))
 
 -- a word clear of the free chunks is no link word of one
 clear-links : (m : Model) (i : ℕ) → Legal (m .cs) → Clear m i → NoLink m i
@@ -186,7 +186,7 @@ module _ {S : Type 0} {op : Ops S Figures} {most places : ℕ} (E : Edition op m
           let le = freeLast-le 0 pre in
           let t8 = total-8 front (legal-front front (free l ∷ back) (subst Legal is (oldest-gone E s m k ks h e .legal))) in
           outside-same (omega arith) (omega arith)
-          (c (nameOf (0 + total front)) l (subst (λ cs. In (slot (nameOf (0 + total front)) l) (frees 0 cs)) (sym is) (free-in front l back)))
+          (c (nameOf (0 + total front)) l (subst (λ cs. Mem (slot (nameOf (0 + total front)) l) (frees 0 cs)) (sym is) (free-in front l back)))
 
       go : (pre : List Chunk) (n : ℕ) (post : List Chunk) → 6 ≤ k → m .cs ≡ pre ++ busy n ∷ post
           → letGoM m k ks .cs ≡ release (pre ++ busy n ∷ post) (length pre) → byteOf k ≡ total pre
@@ -216,7 +216,7 @@ module _ {S : Type 0} {op : Ops S Figures} {most places : ℕ} (E : Edition op m
 
     hand-only : (size : ℕ) → Wrote (roundedOf size) (hand op most places s size)
     unfolding handOut serve fromCache fromList fromMerged
-    hand-only size = rw (true-sound E s (m, h)) (go (eqb size 0) (ltb 4294967284 size))
+    hand-only size = rw (true-sound E s (m, h)) (go (eqb size 0) (ltb 4294967284 size) (never (op .count s) (roundedOf size)))
       where
         z : ℕ
         z = roundedOf size
@@ -276,10 +276,12 @@ module _ {S : Type 0} {op : Ops S Figures} {most places : ℕ} (E : Edition op m
                 (legal-back (u .pre) (busy (usedAt (m .cs) (byteOf x)) ∷ u .post) (subst Legal (u .is) (h .legal))) .0
         served none p = rw (search-same E s m h z) (list p (searchM m z) refl)
 
-        go : (a b : Bool) → Wrote z (pick a (says 1 0 0 s) (pick b (says 2 0 0 s) (fromCache op s z (choose (lengthAt op s) z (op .rest s .cached)))))
-        go true b = λ o k. refl
-        go false true = λ o k. refl
-        go false false = rw (choose-cached E s m h z) (served (choose (sizeM m) z (m .figs .cached)) (choose-picked (sizeM m) z (m .figs .cached)))
+        go : (a b c : Bool)
+            → Wrote z (pick a (says 1 0 0 s) (pick b (says 2 0 0 s) (pick c (says 8 0 0 s) (fromCache op s z (choose (lengthAt op s) z (op .rest s .cached))))))
+        go true b c = λ o k. refl
+        go false true c = λ o k. refl
+        go false false true = λ o k. refl
+        go false false false = rw (choose-cached E s m h z) (served (choose (sizeM m) z (m .figs .cached)) (choose-picked (sizeM m) z (m .figs .cached)))
 
     back-only : (p k n : ℕ) (ks : List ℕ) (pre post : List Chunk) → m .figs .cached ++ nameOf (p - 4) ∷ [] ≡ k ∷ ks → m .cs ≡ pre ++ busy n ∷ post
         → byteOf k ≡ total pre

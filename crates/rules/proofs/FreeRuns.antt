@@ -4,7 +4,7 @@ use mathlib.Core.Path.{_≡_, refl, sym, ap, _∙_, subst}
 use mathlib.Core.Logic.{_⊎_, inl, inr}
 use mathlib.Core.Bool.{Bool, true, false}
 use mathlib.Core.List.{List, [], _∷_, _++_, List·Memᴰ·head, List·Memᴰ·tail}
-use Prim.Native.Nat.{ℕ, _+_, _%_, max, _≤_, _<_}
+use Prim.Native.Nat.{ℕ, _+_, _-_, _*_, _%_, max, _≤_, _<_}
 use native.Mathlib.Omega.{arith}
 use native.Mathlib.Nat.{add-assoc, add-zero, zero-add}
 use lib.Dec.{eqb}
@@ -13,9 +13,10 @@ use borrow.Author.Tests.{eqb-true, eq-eqb, ne-eqb}
 use Rattle.words.specs.Choice.{pick}
 use Rattle.words.specs.Sizes.{roundedOf, thresholdOf}
 use Rattle.words.proofs.Laws.Sizes.{threshold-from}
+use Rattle.rules.specs.Lists.{Mem}
 use Rattle.rules.specs.Ops.{Ops}
 use Rattle.rules.specs.Chunks.{Chunk, free, busy, total, Legal, Calm, usedHead, join, release}
-use Rattle.rules.specs.Exact.{Slot, slot, In, frees}
+use Rattle.rules.specs.Exact.{Slot, slot, frees}
 use Rattle.rules.specs.Rules.{Figures, byteOf, nameOf, listed, letGo}
 use Rattle.rules.specs.Machine.{Model, gaveM, emptyCacheM, withoutCacheM}
 use Rattle.rules.specs.FreeRuns.{ended, longestRun, runsFrom, freeRuns, greatest, longest, Inside}
@@ -177,38 +178,39 @@ module _ {S : Type 0} {op : Ops S Figures} {most places : ℕ} (E : Edition op m
 
   -- NO FIT BY RUNS: every free chunk of the merged layout is shorter than t exactly if every run is
   pub runs-short : (s : S) (m : Model) (t : ℕ) → Sh s m
-      → (((x n : ℕ) → In (slot x n) (frees 0 (withoutCacheM m .cs)) → n < t) → (x n : ℕ) → In (slot x n) (freeRuns m) → n < t)
-      × (((x n : ℕ) → In (slot x n) (freeRuns m) → n < t) → (x n : ℕ) → In (slot x n) (frees 0 (withoutCacheM m .cs)) → n < t)
+      → (((x n : ℕ) → Mem (slot x n) (frees 0 (withoutCacheM m .cs)) → n < t) → (x n : ℕ) → Mem (slot x n) (freeRuns m) → n < t)
+      × (((x n : ℕ) → Mem (slot x n) (freeRuns m) → n < t) → (x n : ℕ) → Mem (slot x n) (frees 0 (withoutCacheM m .cs)) → n < t)
   runs-short s m t h =
       let e = runs-are-free s m h in
-      (λ f x n i. f x n (subst (In (slot x n)) e i), λ f x n i. f x n (subst (In (slot x n)) (sym e) i))
+      (λ f x n i. f x n (subst (Mem (slot x n)) e i), λ f x n i. f x n (subst (Mem (slot x n)) (sym e) i))
 
   -- and exactly if the longest run is
   pub longest-run-short : (s : S) (m : Model) (t : ℕ) → Sh s m → 0 < t
-      → (((x n : ℕ) → In (slot x n) (frees 0 (withoutCacheM m .cs)) → n < t) → greatest (freeRuns m) < t)
-      × (greatest (freeRuns m) < t → (x n : ℕ) → In (slot x n) (frees 0 (withoutCacheM m .cs)) → n < t)
+      → (((x n : ℕ) → Mem (slot x n) (frees 0 (withoutCacheM m .cs)) → n < t) → greatest (freeRuns m) < t)
+      × (greatest (freeRuns m) < t → (x n : ℕ) → Mem (slot x n) (frees 0 (withoutCacheM m .cs)) → n < t)
   longest-run-short s m t h p =
       let e = longest-run s m h in (
         λ f. let a = longest-short 0 t (withoutCacheM m .cs) p f in omega arith,
         λ q x n i. let a = free-longest 0 (withoutCacheM m .cs) x n i in omega arith,
       )
 
-  -- NO FIT, SEEN IN THE LAYOUT: 3 exactly where no cached chunk serves and the longest run does not reach the threshold
+  -- NO FIT, SEEN IN THE LAYOUT, where it may ever fit: 3 exactly where no cached chunk serves and the longest run does not reach the threshold
   pub noFit-by-runs : (s : S) (m : Model) → Sh s m → (size : ℕ) → 0 < size → size ≤ 4294967284
       → let z = roundedOf size in
-      (hand op most places s size .number ≡ 3 → NoneServes m z × (longestRun (m .figs .cached) 0 0 (m .cs) < thresholdOf z))
+      thresholdOf z ≤ 4 * (m .figs .words - 1)
+      → (hand op most places s size .number ≡ 3 → NoneServes m z × (longestRun (m .figs .cached) 0 0 (m .cs) < thresholdOf z))
       × (NoneServes m z × (longestRun (m .figs .cached) 0 0 (m .cs) < thresholdOf z) → hand op most places s size .number ≡ 3)
-  noFit-by-runs s m h size lo hi =
+  noFit-by-runs s m h size lo hi may =
       let t = threshold-from (roundedOf size) in
       let e = longest-among (m .figs .cached) 0 0 (m .cs) ∙ longest-run s m h in
       let k = noFit-exact E s m h size lo hi in (
         λ n. let f = k .0 n in let g = longest-short 0 (thresholdOf (roundedOf size)) (withoutCacheM m .cs) (omega arith) (f .lists) in (f .cache, omega arith),
         λ f. let q = f .1 in
-            k .1 (record { cache = f .0; lists = λ x n i. (let g = free-longest 0 (withoutCacheM m .cs) x n i in omega arith) }),
+            k .1 (record { may = may; cache = f .0; lists = λ x n i. (let g = free-longest 0 (withoutCacheM m .cs) x n i in omega arith) }),
       )
 
   -- EVERY FREE CHUNK LIES INSIDE one of the merged layout
-  pub free-inside : (s : S) (m : Model) → Sh s m → (x n : ℕ) → In (slot x n) (frees 0 (m .cs)) → Inside (frees 0 (withoutCacheM m .cs)) (byteOf x) n
+  pub free-inside : (s : S) (m : Model) → Sh s m → (x n : ℕ) → Mem (slot x n) (frees 0 (m .cs)) → Inside (frees 0 (withoutCacheM m .cs)) (byteOf x) n
   free-inside s m h x n i =
       let f = free-at 0 (m .cs) (slot x n) i in
       let l = subst Legal (f .is) (h .legal) in

@@ -9,6 +9,7 @@ use native.Mathlib.Nat.{add-zero, zero-add}
 use lib.Dec.{leb}
 use borrow.Author.Tests.{lt-ltb, leb-true}
 use Rattle.words.specs.Choice.{pick}
+use Rattle.rules.specs.Lists.{Mem}
 use Rattle.rules.proofs.Lists.{around}
 use Rattle.rules.specs.Ops.{Ops}
 use Rattle.rules.specs.Steps.{link, unlink, merge}
@@ -17,7 +18,7 @@ use Rattle.rules.proofs.Store.{LinkStore}
 use Rattle.rules.proofs.Rings.{ring-next, link-word, unlink-word, prev-on, next-on}
 use Rattle.rules.specs.Chunks.{Chunk, free, busy, total, Legal, Calm}
 use Rattle.rules.proofs.Chunks.{total-append}
-use Rattle.rules.specs.Exact.{Slot, slot, In, frees}
+use Rattle.rules.specs.Exact.{Slot, slot, frees}
 use Rattle.rules.proofs.Exact.{frees-append}
 use Rattle.rules.proofs.Tags.{lastUsed, calm-left, tags-back}
 use Rattle.rules.proofs.Part.{Part, legal-back, outside, off-ring}
@@ -28,7 +29,7 @@ use Rattle.rules.proofs.Release.{Ends, closed, open′, ends, freeLast-
 
 -- word i holds no link of a free chunk of F
 abbrev pub Off : ℕ → List Slot → Type 0
-Off i F = (t : Slot) → In t F → t .name < i + 6 → i + 4 ≤ t .name → ⊥
+Off i F = (t : Slot) → Mem t F → t .name < i + 6 → i + 4 ≤ t .name → ⊥
 
 -- i is outside the words lo to hi
 abbrev pub Out : ℕ → ℕ → ℕ → Type 0
@@ -39,7 +40,7 @@ out-ne (inl h) j a b e = omega arith
 out-ne (inr h) j a b e = omega arith
 
 module _ {S R : Type 0} {op : Ops S R} (L : LinkStore op) (cls : ℕ → ℕ) (cls6 : (n : ℕ) → cls n < 6) where
-  unlinked-word : (s : S) (O : ℕ → List ℕ) (cs : List Chunk) (F : List Slot) (x n i : ℕ) → Part L cls s O cs F → In (slot x n) F → Off i F
+  unlinked-word : (s : S) (O : ℕ → List ℕ) (cs : List Chunk) (F : List Slot) (x n i : ℕ) → Part L cls s O cs F → Mem (slot x n) F → Off i F
       → op .word (unlink op s x) i ≡ op .word s i
   unlinked-word s O cs F x n i p m h =
       let a = around x (O (cls n)) (p .exact .listed x n m) in

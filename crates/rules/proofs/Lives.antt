@@ -298,7 +298,8 @@ module _ {S : Type 0} {op : Ops S Figures} {most places : ℕ} (E : Edition op m
   handed-model : (size : ℕ) → ServedM (roundedOf size) (handOutM m size)
   handed-model size =
       handM-cases m size (ServedM z) (λ e n. absurd (let u : _≡_ {A = ℕ} 1 0 = n in omega arith)) (λ e n. absurd (let u : _≡_ {A = ℕ} 2 0 = n in omega arith))
-      (λ a b. served (choose (sizeM m) z (m .figs .cached)) (choose-picked (sizeM m) z (m .figs .cached)) (choose-rest (sizeM m) z (m .figs .cached)))
+      (λ a b k n. absurd (let u : _≡_ {A = ℕ} 8 0 = n in omega arith))
+      (λ a b k. served (choose (sizeM m) z (m .figs .cached)) (choose-picked (sizeM m) z (m .figs .cached)) (choose-rest (sizeM m) z (m .figs .cached)))
     where
       z : ℕ
       z = roundedOf size
@@ -494,7 +495,7 @@ module _ {S : Type 0} {op : Ops S Figures} {most places : ℕ} (E : Edition op m
   pub served-sound : (s : S) (size : ℕ) → hand op most places s size .number ≡ 0 → Sound op most places s
   served-sound s size n = sound-true E s (hand-cases op places (soundᵇ op most places) s size (λ o. o .number ≡ 0 → soundᵇ op most places s ≡ true)
       (λ e z. absurd (let u : _≡_ {A = ℕ} 1 0 = z in omega arith)) (λ e z. absurd (let u : _≡_ {A = ℕ} 2 0 = z in omega arith))
-      (λ a b e z. absurd (let u : _≡_ {A = ℕ} 5 0 = z in omega arith)) (λ a b e z. e) n)
+      (λ a b e z. absurd (let u : _≡_ {A = ℕ} 5 0 = z in omega arith)) (λ a b e k z. e) (λ a b e k z. e) n)
 
   -- what is taken back was sound
   pub settled-sound : (s : S) (p : ℕ) → back op most places s p .number ≡ 0 → Sound op most places s

@@ -6,8 +6,9 @@ use mathlib.Core.List.{List, [], _∷_, _++_, List·Memᴰ·head, List·Memᴰ·
 use Prim.Native.Nat.{ℕ, zero, suc, _+_, _/_, max, _≤_, _<_}
 use native.Mathlib.Omega.{arith}
 use Rattle.words.specs.Choice.{pick}
+use Rattle.rules.specs.Lists.{Mem}
 use Rattle.rules.specs.Chunks.{Chunk, free, join, release}
-use Rattle.rules.specs.Exact.{slot, In, frees}
+use Rattle.rules.specs.Exact.{slot, frees}
 use Rattle.rules.specs.Place.{indexAt}
 use Rattle.rules.proofs.Place.{free-at}
 use Rattle.rules.specs.Rules.{byteOf}
@@ -47,26 +48,26 @@ empty-cache-longest (k ∷ ks) m =
     omega arith
 
 -- against the free chunks by name: none is longer, and where all are shorter than t so is the longest
-pub free-longest : (b : ℕ) (cs : List Chunk) (x n : ℕ) → In (slot x n) (frees b cs) → n ≤ longest cs
+pub free-longest : (b : ℕ) (cs : List Chunk) (x n : ℕ) → Mem (slot x n) (frees b cs) → n ≤ longest cs
 free-longest b cs x n i = let f = free-at b cs (slot x n) i in subst (λ ds. n ≤ longest ds) (sym (f .is)) (has (f .pre) (f .post))
   where
     has : (pre post : List Chunk) → n ≤ longest (pre ++ free n ∷ post)
     has [] post = omega arith
     has (c ∷ pre) post = let a = has pre post in omega arith
 
-pub longest-short : (b t : ℕ) (cs : List Chunk) → 0 < t → ((x n : ℕ) → In (slot x n) (frees b cs) → n < t) → longest cs < t
+pub longest-short : (b t : ℕ) (cs : List Chunk) → 0 < t → ((x n : ℕ) → Mem (slot x n) (frees b cs) → n < t) → longest cs < t
 unfolding frees
 longest-short b t [] p f = p
 longest-short b t (c ∷ cs) p f = go (c .used) f (λ g. longest-short (b + c .len) t cs p g)
   where
-    go : (u : Bool) → ((x n : ℕ) → In (slot x n) (pick u (frees (b + c .len) cs) (slot (b / 4 + 6) (c .len) ∷ frees (b + c .len) cs)) → n < t)
-        → (((x n : ℕ) → In (slot x n) (frees (b + c .len) cs) → n < t) → longest cs < t) → max (pick u 0 (c .len)) (longest cs) < t
+    go : (u : Bool) → ((x n : ℕ) → Mem (slot x n) (pick u (frees (b + c .len) cs) (slot (b / 4 + 6) (c .len) ∷ frees (b + c .len) cs)) → n < t)
+        → (((x n : ℕ) → Mem (slot x n) (frees (b + c .len) cs) → n < t) → longest cs < t) → max (pick u 0 (c .len)) (longest cs) < t
     go true g r = let a = r g in omega arith
     go false g r = let a = r (λ x n i. g x n (List·Memᴰ·tail i)) in let h = g (b / 4 + 6) (c .len) (List·Memᴰ·head refl) in omega arith
 
 -- NO FIT AFTER EMPTYING IS NO FIT BEFORE: where every free chunk of the merged layout is shorter than t, every free chunk is
-pub none-before : (m : Model) (t : ℕ) → 0 < t → ((x n : ℕ) → In (slot x n) (frees 0 (withoutCacheM m .cs)) → n < t) → (x n : ℕ)
-    → In (slot x n) (frees 0 (m .cs)) → n < t
+pub none-before : (m : Model) (t : ℕ) → 0 < t → ((x n : ℕ) → Mem (slot x n) (frees 0 (withoutCacheM m .cs)) → n < t) → (x n : ℕ)
+    → Mem (slot x n) (frees 0 (m .cs)) → n < t
 none-before m t p f x n i =
     let a = free-longest 0 (m .cs) x n i in
     let b = empty-cache-longest (m .figs .cached) m in

@@ -13,7 +13,7 @@ use Rattle.rules.specs.Ops.{Ops}
 use Rattle.rules.specs.Steps.{lengthAt}
 use Rattle.rules.proofs.Store.{LinkStore}
 use Rattle.rules.specs.Chunks.{Chunk, free, total, Legal}
-use Rattle.rules.specs.Exact.{Slot, slot, In, frees}
+use Rattle.rules.specs.Exact.{Slot, slot, frees}
 use Rattle.rules.proofs.Tags.{lastUsed, tags-back}
 use Rattle.rules.proofs.Part.{legal-front, legal-back}
 use Rattle.rules.proofs.Calls.{Whole, total-8}
@@ -31,7 +31,7 @@ names : List Slot → List ℕ
 names [] = []
 names (t ∷ F) = t .name ∷ names F
 
-in-names : (t : Slot) (F : List Slot) → In t F → Mem (t .name) (names F)
+in-names : (t : Slot) (F : List Slot) → Mem t F → Mem (t .name) (names F)
 unfolding names
 in-names t [] m = absurd (List·Memᴰ·not-nil m)
 in-names t (u ∷ F) (List·Memᴰ·head e) = List·Memᴰ·head (ap (λ (s : Slot). s .name) e)

@@ -14,7 +14,7 @@ use Rattle.rules.proofs.Store.{LinkStore}
 use Rattle.rules.proofs.Rings.{Rings, link-rings, unlink-rings, ring-next, link-word, unlink-word, rings-write, prev-on, next-on}
 use Rattle.rules.specs.Chunks.{Chunk, total, Legal}
 use Rattle.rules.proofs.Chunks.{total-append}
-use Rattle.rules.specs.Exact.{Slot, slot, In, frees, Exact}
+use Rattle.rules.specs.Exact.{Slot, slot, frees, Exact}
 use Rattle.rules.proofs.Exact.{frees-append, frees-from, Alone, exact-remove, exact-add, in-middle, in-wide}
 use Rattle.words.specs.Choice.{bit}
 use Rattle.rules.specs.Tags.{headTag, Tags}
@@ -35,14 +35,14 @@ legal-join (c ∷ pre) cs l g = (l .0, l .1, legal-join pre cs (l .2) g)
 pub record Part {S R : Type 0} {op : Ops S R} (L : LinkStore op) (cls : ℕ → ℕ) (s : S) (O : ℕ → List ℕ) (cs : List Chunk) (F : List Slot) : Type 0 where
   pub rings : Rings L s O
   pub exact : Exact cls O F
-  pub sub : (t : Slot) → In t F → In t (frees 0 cs)
+  pub sub : (t : Slot) → Mem t F → Mem t (frees 0 cs)
   pub legal : Legal cs
   pub size : total cs ≡ L .bytes
   pub tags : Tags (op .word s) 0 true cs
 
 module _ {S R : Type 0} {op : Ops S R} (L : LinkStore op) (cls : ℕ → ℕ) (cls6 : (n : ℕ) → cls n < 6) where
   -- a word in which no slot of F keeps links is one in which no node of the rings does
-  pub off-ring : (O : ℕ → List ℕ) (F : List Slot) → Exact cls O F → (i : ℕ) → ((t : Slot) → In t F → t .name < i + 6 → i + 4 ≤ t .name → ⊥)
+  pub off-ring : (O : ℕ → List ℕ) (F : List Slot) → Exact cls O F → (i : ℕ) → ((t : Slot) → Mem t F → t .name < i + 6 → i + 4 ≤ t .name → ⊥)
       → (k x : ℕ) → k < 6 → Mem x (k ∷ O k) → L .Owns x i → ⊥
   off-ring O F e i h k x hk (List·Memᴰ·head q) o = let b = L .owns x i o in omega arith
   off-ring O F e i h k x hk (List·Memᴰ·tail m) o =
@@ -66,7 +66,7 @@ module _ {S R : Type 0} {op : Ops S R} (L : LinkStore op) (cls : ℕ → ℕ) (c
           (p .tags);
     }
 
-    pub part-link : In (slot x n) (frees 0 cs) → L .Node x → 6 ≤ x → Part L cls s O cs (F ++ G)
+    pub part-link : Mem (slot x n) (frees 0 cs) → L .Node x → 6 ≤ x → Part L cls s O cs (F ++ G)
         → Part L cls (link op s (cls n) x) (put O (cls n) (x ∷ O (cls n))) cs (F ++ slot x n ∷ G)
     part-link there nx h6 p = record {
       rings = link-rings L s O (p .rings) (cls n) x (cls6 n) nx h6 (λ j hj m. let r = p .exact .only j x hj m in alone (slot x (r .0)) (r .1) refl);
@@ -82,8 +82,8 @@ module _ {S R : Type 0} {op : Ops S R} (L : LinkStore op) (cls : ℕ → ℕ) (c
           (p .tags);
     }
       where
-        both : (t : Slot) → (t ≡ slot x n) ⊎ In t (F ++ G) → In t (frees 0 cs)
-        both t (inl e) = subst (λ (z : Slot). In z (frees 0 cs)) (sym e) there
+        both : (t : Slot) → (t ≡ slot x n) ⊎ Mem t (F ++ G) → Mem t (frees 0 cs)
+        both t (inl e) = subst (λ (z : Slot). Mem z (frees 0 cs)) (sym e) there
         both t (inr m) = p .sub t m
 
   -- THE MIDDLE PART: chunks mid between pre and post, none of whose free ones is listed, are tagged anew
@@ -100,17 +100,17 @@ module _ {S R : Type 0} {op : Ops S R} (L : LinkStore op) (cls : ℕ → ℕ) (c
 
     -- no slot outside reaches into the part, nor names it
     pub outside-off : (m : ℕ) → Legal pre → Legal post → (i : ℕ) → b / 4 ≤ i → i ≤ (b + m) / 4
-        → (t : Slot) → In t (outside m) → t .name < i + 6 → i + 4 ≤ t .name → ⊥
+        → (t : Slot) → Mem t (outside m) → t .name < i + 6 → i + 4 ≤ t .name → ⊥
     outside-off m lp lq i h k t u p q = go (List·Memᴰ·append-cases (frees 0 pre) u)
       where
-        go : In t (frees 0 pre) ⊎ In t (frees (b + m) post) → ⊥
+        go : Mem t (frees 0 pre) ⊎ Mem t (frees (b + m) post) → ⊥
         go (inl v) = let r = frees-from 0 pre lp t v in omega arith
         go (inr v) = let r = frees-from (b + m) post lq t v in omega arith
 
     pub outside-alone : (m : ℕ) → Legal pre → Legal post → (w : ℕ) → b / 4 ≤ w → w < (b + m) / 4 → Alone (w + 6) (outside m)
     outside-alone m lp lq w h k t u e = go (List·Memᴰ·append-cases (frees 0 pre) u)
       where
-        go : In t (frees 0 pre) ⊎ In t (frees (b + m) post) → ⊥
+        go : Mem t (frees 0 pre) ⊎ Mem t (frees (b + m) post) → ⊥
         go (inl v) = let r = frees-from 0 pre lp t v in omega arith
         go (inr v) = let r = frees-from (b + m) post lq t v in omega arith
 
@@ -145,6 +145,6 @@ module _ {S R : Type 0} {op : Ops S R} (L : LinkStore op) (cls : ℕ → ℕ) (c
         lq : Legal post
         lq = legal-back mid post (legal-back pre (mid ++ post) (p .legal))
 
-        wide : (t : Slot) → In t (frees 0 pre) ⊎ In t (frees (b + m) post) → In t (frees 0 pre ++ (frees b mid′ ++ frees (b + m) post))
+        wide : (t : Slot) → Mem t (frees 0 pre) ⊎ Mem t (frees (b + m) post) → Mem t (frees 0 pre ++ (frees b mid′ ++ frees (b + m) post))
         wide t (inl i) = Memᴰ·append-left _ i
         wide t (inr i) = Memᴰ·append-right (frees 0 pre) (Memᴰ·append-right (frees b mid′) i)

@@ -12,8 +12,9 @@ use lib.ListN.{length}
 use borrow.Author.Tests.{eq-eqb, ne-eqb, eqb-true, leb-true, le-leb}
 use Rattle.words.proofs.Laws.Choice.{bit-small}
 use Rattle.words.specs.Choice.{pick, bit}
+use Rattle.rules.specs.Lists.{Mem}
 use Rattle.rules.specs.Chunks.{Chunk, free, busy, total, Legal}
-use Rattle.rules.specs.Exact.{Slot, slot, In, frees}
+use Rattle.rules.specs.Exact.{Slot, slot, frees}
 use Rattle.rules.specs.Tags.{Tags}
 use Rattle.rules.specs.Place.{UsedAt, indexAt, lenAt, usedAt, tile, usedWalk}
 
@@ -24,7 +25,7 @@ pub record FreeAt (b : ℕ) (cs : List Chunk) (t : Slot) : Type 0 where
   pub is : cs ≡ pre ++ free (t .len) ∷ post
   pub named : t .name ≡ (b + total pre) / 4 + 6
 
-pub free-at : (b : ℕ) (cs : List Chunk) (t : Slot) → In t (frees b cs) → FreeAt b cs t
+pub free-at : (b : ℕ) (cs : List Chunk) (t : Slot) → Mem t (frees b cs) → FreeAt b cs t
 unfolding frees
 free-at b [] t m = absurd (List·Memᴰ·not-nil m)
 free-at b (c ∷ cs) t m = go (c .used) refl m (λ i. free-at (b + c .len) cs t i)
@@ -37,8 +38,8 @@ free-at b (c ∷ cs) t m = go (c .used) refl m (λ i. free-at (b + c .len) cs t 
       named = r .named ∙ ap (λ (n : ℕ). n / 4 + 6) (omega arith);
     }
 
-    go : (u : Bool) → c .used ≡ u → In t (pick u (frees (b + c .len) cs) (slot (b / 4 + 6) (c .len) ∷ frees (b + c .len) cs))
-        → (In t (frees (b + c .len) cs) → FreeAt (b + c .len) cs t) → FreeAt b (c ∷ cs) t
+    go : (u : Bool) → c .used ≡ u → Mem t (pick u (frees (b + c .len) cs) (slot (b / 4 + 6) (c .len) ∷ frees (b + c .len) cs))
+        → (Mem t (frees (b + c .len) cs) → FreeAt (b + c .len) cs t) → FreeAt b (c ∷ cs) t
     go true e i f = deep (f i)
     go false e (List·Memᴰ·head q) f = record {
       pre = [];

@@ -3,27 +3,27 @@ use mathlib.Core.Path.{_≡_, refl, sym, ap, _∙_, subst}
 use mathlib.Core.Logic.{_≢_, _⊎_, inl, inr}
 use mathlib.Core.Bool.{Bool, true, false}
 use mathlib.Core.List.{List, [], _∷_, _++_, List·Memᴰ·head, List·Memᴰ·not-nil, Memᴰ·append-right}
-use Prim.Native.Nat.{ℕ, _+_, _-_, _≤_, _<_}
+use Prim.Native.Nat.{ℕ, _+_, _-_, _*_, _≤_, _<_}
 use native.Mathlib.Omega.{arith}
 use lib.Dec.{leb}
 use lib.ListN.{length}
 use borrow.Author.Tests.{lt-ltb, le-ltb}
 use Rattle.words.specs.Choice.{pick}
 use Rattle.words.specs.Links.{narrow, wide}
-use Rattle.words.specs.Sizes.{roundedOf}
+use Rattle.words.specs.Sizes.{roundedOf, thresholdOf}
 use Rattle.rules.specs.Lists.{Mem}
 use Rattle.rules.specs.Ops.{Ops}
 use Rattle.rules.specs.State.{ops}
 use Rattle.rules.specs.Rules.{Figures, Outcome, says, byteOf, nameOf, serves, withCached, counted, withoutCache, withoutCacheF}
 use Rattle.rules.specs.Machine.{Model, ask, give, sizeM, liveM, gaveM, settledM, withoutCacheM}
-use Rattle.rules.specs.Exact.{slot, In, frees}
+use Rattle.rules.specs.Exact.{slot, frees}
 use Rattle.rules.specs.Sound.{Shows, Sound}
 use Rattle.rules.specs.Test.{soundᵇ}
 use Rattle.rules.specs.Demands.{NoFit, hand, back}
 use Rattle.rules.specs.Runs.{call}
 use Rattle.rules.specs.Claims.{Allowable}
 use Rattle.rules.specs.Lives.{liveAt}
-use Rattle.rules.specs.Promises.{AsTheMachine, RunAsTheMachine, Unfit, ServedExactly, ThreeExactly, FiveExactly, TakenExactly, FourExactly, FewCompared}
+use Rattle.rules.specs.Promises.{AsTheMachine, RunAsTheMachine, Never, Unfit, ServedExactly, EightExactly, ThreeExactly, FiveExactly, TakenExactly, FourExactly, FewCompared}
 use Rattle.rules.specs.Promises.{CountedUp, HandedFigures, TakenFigures, Promises}
 use Rattle.rules.proofs.Store.{Edition}
 use Rattle.rules.proofs.Follow.{live-last, used-same, without-cache-shows}
@@ -61,7 +61,7 @@ module _ {S : Type 0} {op : Ops S Figures} {most places : ℕ} (E : Edition op m
   allowed s size =
       hand-cases op places (soundᵇ op most places) s size (λ o. o .number ≢ 1 → o .number ≢ 2 → Allowable (ask size)) (λ e a b. absurd (a refl))
       (λ e a b. absurd (b refl))
-      (λ p q e a b. (p, q)) (λ p q e a b. (p, q))
+      (λ p q e a b. (p, q)) (λ p q e k a b. (p, q)) (λ p q e k a b. (p, q))
 
   -- what is not answered 5 was sound
   sound-by : (s : S) (size : ℕ) → Allowable (ask size) → hand op most places s size .number ≢ 5 → Sound op most places s
@@ -75,13 +75,14 @@ module _ {S : Type 0} {op : Ops S Figures} {most places : ℕ} (E : Edition op m
       go false e =
           sound-true E s (hand-cases op places (soundᵇ op most places) s size P (λ z. absurd (let q = a .0 in omega arith))
           (λ z. absurd (let q = a .1 in omega arith))
-          (λ p q f k. absurd (k refl)) (λ p q f k. f) n)
+          (λ p q f k. absurd (k refl)) (λ p q f r k. f) (λ p q f r k. f) n)
 
   -- no fit on the model, told of the state
   unfit-told : (s : S) (m : Model) (h : Shows op most places s m) (z : ℕ) → NoFit m z → Unfit op most places s z
   unfit-told s m h z w =
       record {
         sound = (m, h);
+        may = subst (λ (n : ℕ). thresholdOf z ≤ 4 * (n - 1)) (h .words) (w .may);
         cache = λ x i. let j = subst (λ (f : Figures). Mem x (f .cached)) (h .figs) i in
             let u = h .cache .used x j in
             ap (λ (n : ℕ). serves n z) (used-same E s m h x (u .0) (u .1)) ∙ w .cache x j;
@@ -95,9 +96,10 @@ module _ {S : Type 0} {op : Ops S Figures} {most places : ℕ} (E : Edition op m
   unfit-shown s m h z w =
       let c = layout-unique E (withoutCache op s) (withoutCacheM m) (w .merged) (without-cache-shows E s m h) (w .shows) in
       record {
+        may = subst (λ (n : ℕ). thresholdOf z ≤ 4 * (n - 1)) (sym (h .words)) (w .may);
         cache = λ x j. let u = h .cache .used x j in
             ap (λ (n : ℕ). serves n z) (sym (used-same E s m h x (u .0) (u .1))) ∙ w .cache x (subst (λ (f : Figures). Mem x (f .cached)) (sym (h .figs)) j);
-        lists = λ x n i. w .lists x n (subst (λ cs. In (slot x n) (frees 0 cs)) c i);
+        lists = λ x n i. w .lists x n (subst (λ cs. Mem (slot x n) (frees 0 cs)) c i);
       }
 
   -- 3, exactly
@@ -110,27 +112,75 @@ module _ {S : Type 0} {op : Ops S Figures} {most places : ℕ} (E : Edition op m
         noFit-exact E s (k .0) (k .1) size (w .0 .0) (w .0 .1) .1 (unfit-shown s (k .0) (k .1) (roundedOf size) (w .1)),
   )
 
-  -- served, or no fit
-  either-way : (s : S) (m : Model) → Shows op most places s m → (size : ℕ) → Allowable (ask size) → (hand op most places s size .number ≡ 0) ⊎
-      (hand op most places s size .number ≡ 3)
-  either-way s m h size a =
-      rw (hand-follows E s m h size .number)
-      (handM-cases m size (λ o. (o .number ≡ 0) ⊎ (o .number ≡ 3)) (λ z. absurd (let q = a .0 in omega arith)) (λ z. absurd (let q = a .1 in omega arith))
-      (λ p q. serveM-cases m (roundedOf size) (λ o. (o .number ≡ 0) ⊎ (o .number ≡ 3)) (λ x ks r. inl refl) (λ r x c e. inl refl)
-      (λ r c e x d g. inl refl) (λ r c e d g. inr refl)))
+  -- 8 where it can never fit; else served, or no fit
+  three-ways : (s : S) (m : Model) → Shows op most places s m → (size : ℕ) → Allowable (ask size)
+      → ((hand op most places s size .number ≡ 8) × Never op most places s (roundedOf size))
+      ⊎ ((Never op most places s (roundedOf size) → ⊥) × ((hand op most places s size .number ≡ 0) ⊎ (hand op most places s size .number ≡ 3)))
+  three-ways s m h size a =
+      rw (hand-follows E s m h size .number, ← (h .words))
+      (handM-cases m size W (λ z. absurd (let q = a .0 in omega arith)) (λ z. absurd (let q = a .1 in omega arith)) (λ p q k. inl (refl, k))
+      (λ p q k. serveM-cases m (roundedOf size) W (λ x ks r. inr (λ n. omega arith, inl refl)) (λ r x c e. inr (λ n. omega arith, inl refl))
+      (λ r c e x d g. inr (λ n. omega arith, inl refl)) (λ r c e d g. inr (λ n. omega arith, inr refl))))
+    where
+      N : Type 0
+      N = 4 * (m .figs .words - 1) < thresholdOf (roundedOf size)
+
+      W : Outcome Model → Type 0
+      W o = ((o .number ≡ 8) × N) ⊎ ((N → ⊥) × ((o .number ≡ 0) ⊎ (o .number ≡ 3)))
 
   -- 0, exactly
   pub served-exactly : ServedExactly op most places
   served-exactly s size = (
     λ e. let a = allowed s size (λ z. (let u : _≡_ {A = ℕ} 0 1 = sym e ∙ z in omega arith)) (λ z. (let u : _≡_ {A = ℕ} 0 2 = sym e ∙ z in omega arith)) in
-        (a, served-sound E s size e, λ u. (let z : _≡_ {A = ℕ} 0 3 = sym e ∙ three-exactly s size .1 (a, u) in omega arith)),
-    λ w. done (w .0) (w .1) (w .2) (either-way s (w .1 .0) (w .1 .1) size (w .0)),
+        let k = served-sound E s size e in
+        (a, k, may e (three-ways s (k .0) (k .1) size a), λ u. (let z : _≡_ {A = ℕ} 0 3 = sym e ∙ three-exactly s size .1 (a, u) in omega arith)),
+    λ w. done (w .2) (w .3) (three-ways s (w .1 .0) (w .1 .1) size (w .0)),
   )
     where
-      done : Allowable (ask size) → Sound op most places s → (Unfit op most places s (roundedOf size) → ⊥)
-          → (hand op most places s size .number ≡ 0) ⊎ (hand op most places s size .number ≡ 3) → hand op most places s size .number ≡ 0
-      done a k u (inl e) = e
-      done a k u (inr e) = absurd (u (three-exactly s size .0 e .1))
+      n : ℕ
+      n = hand op most places s size .number
+
+      Nv : Type 0
+      Nv = Never op most places s (roundedOf size)
+
+      may : n ≡ 0 → ((n ≡ 8) × Nv) ⊎ ((Nv → ⊥) × ((n ≡ 0) ⊎ (n ≡ 3))) → Nv → ⊥
+      may e (inl q) = absurd (let u : _≡_ {A = ℕ} 0 8 = sym e ∙ q .0 in omega arith)
+      may e (inr q) = q .0
+
+      done : (Nv → ⊥) → (Unfit op most places s (roundedOf size) → ⊥) → ((n ≡ 8) × Nv) ⊎ ((Nv → ⊥) × ((n ≡ 0) ⊎ (n ≡ 3))) → n ≡ 0
+      done m u (inl q) = absurd (m (q .1))
+      done m u (inr q) = fit (q .1)
+        where
+          fit : (n ≡ 0) ⊎ (n ≡ 3) → n ≡ 0
+          fit (inl e) = e
+          fit (inr e) = absurd (u (three-exactly s size .0 e .1))
+
+  -- 8, exactly
+  pub eight-exactly : EightExactly op most places
+  eight-exactly s size = (
+    λ e. let a = allowed s size (λ z. (let u : _≡_ {A = ℕ} 8 1 = sym e ∙ z in omega arith)) (λ z. (let u : _≡_ {A = ℕ} 8 2 = sym e ∙ z in omega arith)) in
+        let k = sound-by s size a (λ z. (let u : _≡_ {A = ℕ} 8 5 = sym e ∙ z in omega arith)) in
+        (a, k, to e (three-ways s (k .0) (k .1) size a)),
+    λ w. from (w .2) (three-ways s (w .1 .0) (w .1 .1) size (w .0)),
+  )
+    where
+      n : ℕ
+      n = hand op most places s size .number
+
+      Nv : Type 0
+      Nv = Never op most places s (roundedOf size)
+
+      to : n ≡ 8 → ((n ≡ 8) × Nv) ⊎ ((Nv → ⊥) × ((n ≡ 0) ⊎ (n ≡ 3))) → Nv
+      to e (inl q) = q .1
+      to e (inr q) = absurd (off (q .1))
+        where
+          off : (n ≡ 0) ⊎ (n ≡ 3) → ⊥
+          off (inl z) = let u : _≡_ {A = ℕ} 8 0 = sym e ∙ z in omega arith
+          off (inr z) = let u : _≡_ {A = ℕ} 8 3 = sym e ∙ z in omega arith
+
+      from : Nv → ((n ≡ 8) × Nv) ⊎ ((Nv → ⊥) × ((n ≡ 0) ⊎ (n ≡ 3))) → n ≡ 8
+      from v (inl q) = q .0
+      from v (inr q) = absurd (q .0 v)
 
   -- 5, exactly
   pub five-exactly : FiveExactly op most places
@@ -185,7 +235,7 @@ module _ {S : Type 0} {op : Ops S Figures} {most places : ℕ} (E : Edition op m
   pub few-compared : FewCompared op most places
   few-compared s size q =
       go (hand-cases op places (soundᵇ op most places) s size (λ o. (soundᵇ op most places s ≡ true) ⊎ (o .compared ≡ 0)) (λ e. inr refl) (λ e. inr refl)
-      (λ a b e. inr refl) (λ a b e. inl e))
+      (λ a b e. inr refl) (λ a b e k. inl e) (λ a b e k. inl e))
     where
       go : (soundᵇ op most places s ≡ true) ⊎ (hand op most places s size .compared ≡ 0) → hand op most places s size .compared ≤ 1
       go (inl e) = let k = sound-true E s e in compared-small E s (k .0) (k .1) size q
@@ -262,6 +312,7 @@ module _ {S : Type 0} {op : Ops S Figures} {most places : ℕ} (E : Edition op m
     step = step;
     runs = run-step;
     served = served-exactly;
+    eight = eight-exactly;
     three = three-exactly;
     five = five-exactly;
     taken = taken-exactly;

@@ -75,7 +75,7 @@ demands {op = op} {most = most} {places = places} E = record {
   large = hand-large op most places;
   damaged = damaged E;
   noFit = λ s m h size a. noFit-exact E s m h size (a .0) (a .1);
-  byRuns = λ s m h size a. noFit-by-runs E s m h size (a .0) (a .1);
+  byRuns = λ s m h size a k. noFit-by-runs E s m h size (a .0) (a .1) k;
   notLive = λ s m h p. notLive-exact E s m h p;
   position = position E;
   compared = λ s m h size. (compared-small E s m h size, compared-small-refused E s m h size, compared-large-refused E s m h size);

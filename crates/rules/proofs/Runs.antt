@@ -35,8 +35,8 @@ use Rattle.rules.proofs.TwoRun.{Laws, two-runs, run-abs, run-answers}
 use Rattle.words.specs.Links.{Width}
 use Rattle.words.proofs.Laws.Links.{Lawful}
 use Rattle.rules.specs.State.{ops}
-use Rattle.rules.specs.Rules.{Figures, says, byteOf, nameOf, Chosen, none, one, choose, withCached, released, letGo, withoutCache, fromMerged, fromList}
-use Rattle.rules.specs.Rules.{fromCache, serve, handOut, settled, takeBack}
+use Rattle.rules.specs.Rules.{Figures, says, byteOf, nameOf, Chosen, none, one, never, choose, withCached, released, letGo, withoutCache, fromMerged}
+use Rattle.rules.specs.Rules.{fromList, fromCache, serve, handOut, settled, takeBack}
 use Rattle.rules.specs.Machine.{Model, Request, ask, give, Answer, answerOf, callM, sizeM, searched, searchM, withoutCacheM, liveM, gaveM, settledM, takeBackM, madeM, stepsM, repliesM}
 use Rattle.rules.specs.Sound.{Accepted, Shows}
 use Rattle.rules.proofs.Store.{Edition}
@@ -175,7 +175,7 @@ module _ {S : Type 0} {op : Ops S Figures} {most places : ℕ} (E : Edition op m
   module _ (s : S) (m : Model) (h : Sh s m) (i : ℕ) where
     hand-keeps : (size : ℕ) → LiveWord m i → op .word (hand op most places s size .after) i ≡ op .word s i
     unfolding handOut serve fromCache fromList fromMerged
-    hand-keeps size l = rw (true-sound E s (m, h)) (go (eqb size 0) (ltb 4294967284 size))
+    hand-keeps size l = rw (true-sound E s (m, h)) (go (eqb size 0) (ltb 4294967284 size) (never (op .count s) (roundedOf size)))
       where
         again : (c : ℕ) (r : Found) → Fits (sizeM (withoutCacheM m)) (roundedOf size) (searched (withoutCacheM m) (roundedOf size)) r
             → op .word (fromMerged op s (roundedOf size) c r .after) i ≡ op .word s i
@@ -206,12 +206,13 @@ module _ {S : Type 0} {op : Ops S Figures} {most places : ℕ} (E : Edition op m
             rw (search-same E s m h (roundedOf size))
             (list (searchM m (roundedOf size)) (find-fits (sizeM m) (roundedOf size) (searched m (roundedOf size)) 0))
 
-        go : (a b : Bool) → op .word ((pick a (says 1 0 0 s)
-            (pick b (says 2 0 0 s) (fromCache op s (roundedOf size)
-            (choose (lengthAt op s) (roundedOf size) (op .rest s .cached))))) .after) i ≡ op .word s i
-        go true b = refl
-        go false true = refl
-        go false false =
+        go : (a b c : Bool) → op .word ((pick a (says 1 0 0 s)
+            (pick b (says 2 0 0 s) (pick c (says 8 0 0 s) (fromCache op s (roundedOf size)
+            (choose (lengthAt op s) (roundedOf size) (op .rest s .cached)))))) .after) i ≡ op .word s i
+        go true b c = refl
+        go false true c = refl
+        go false false true = refl
+        go false false false =
             rw (choose-cached E s m h (roundedOf size))
             (served (choose (sizeM m) (roundedOf size) (m .figs .cached)) (choose-picked (sizeM m) (roundedOf size) (m .figs .cached)))
 

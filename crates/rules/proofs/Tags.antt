@@ -8,10 +8,11 @@ use Prim.Native.Nat.{ℕ, _+_, _-_, _/_, _≤_, _<_}
 use native.Mathlib.Nat.{add-zero, add-assoc}
 use native.Mathlib.Omega.{arith}
 use Rattle.words.specs.Choice.{pick, bit}
+use Rattle.rules.specs.Lists.{Mem}
 use Rattle.rules.specs.Chunks.{Chunk, free, total, Legal, Calm}
 use Rattle.rules.specs.Test.{either}
 use Rattle.rules.proofs.Chunks.{usedLast}
-use Rattle.rules.specs.Exact.{Slot, slot, In, frees}
+use Rattle.rules.specs.Exact.{Slot, slot, frees}
 use Rattle.rules.proofs.Exact.{frees-from}
 use Rattle.rules.specs.Tags.{Tag, Tags, headTag}
 
@@ -111,7 +112,7 @@ tags-head f b l [] t = t
 tags-head f b l (c ∷ cs) t = t .0
 
 -- no tag stands in a word that a free chunk keeps links in
-pub tag-free : (b : ℕ) (cs : List Chunk) → Legal cs → (i : ℕ) → Tag b cs i → (t : Slot) → In t (frees b cs) → t .name < i + 6 → i + 4 ≤ t .name → ⊥
+pub tag-free : (b : ℕ) (cs : List Chunk) → Legal cs → (i : ℕ) → Tag b cs i → (t : Slot) → Mem t (frees b cs) → t .name < i + 6 → i + 4 ≤ t .name → ⊥
 unfolding frees
 tag-free b [] l i g t m p q = List·Memᴰ·not-nil m
 tag-free b (c ∷ cs) l i g t m p q = go (λ u m′. tag-free (b + c .len) cs (l .2) i u t m′ p q) (c .used) m g
@@ -122,7 +123,7 @@ tag-free b (c ∷ cs) l i g t m p q = go (λ u m′. tag-free (b + c .len) cs (l
     after : Tag (b + c .len) cs i → (b + c .len) / 4 ≤ i
     after u = tag-from (b + c .len) cs i (l .2) u
 
-    deep : (Tag (b + c .len) cs i → In t (frees (b + c .len) cs) → ⊥) → In t (frees (b + c .len) cs) → Tag b (c ∷ cs) i → ⊥
+    deep : (Tag (b + c .len) cs i → Mem t (frees (b + c .len) cs) → ⊥) → Mem t (frees (b + c .len) cs) → Tag b (c ∷ cs) i → ⊥
     deep f m′ (inl e) = let r = frees-from (b + c .len) cs (l .2) t m′ in let a′ = a in omega arith
     deep f m′ (inr (inl e)) = let r = frees-from (b + c .len) cs (l .2) t m′ in let a′ = a in omega arith
     deep f m′ (inr (inr u)) = f u m′
@@ -132,15 +133,15 @@ tag-free b (c ∷ cs) l i g t m p q = go (λ u m′. tag-free (b + c .len) cs (l
     here e (inr (inl e′)) = let a′ = a in omega arith
     here e (inr (inr u)) = let r = after u in let a′ = a in omega arith
 
-    go : (Tag (b + c .len) cs i → In t (frees (b + c .len) cs) → ⊥)
-        → (u : Bool) → In t (pick u (frees (b + c .len) cs) (slot (b / 4 + 6) (c .len) ∷ frees (b + c .len) cs)) → Tag b (c ∷ cs) i → ⊥
+    go : (Tag (b + c .len) cs i → Mem t (frees (b + c .len) cs) → ⊥)
+        → (u : Bool) → Mem t (pick u (frees (b + c .len) cs) (slot (b / 4 + 6) (c .len) ∷ frees (b + c .len) cs)) → Tag b (c ∷ cs) i → ⊥
     go f true m′ g′ = deep f m′ g′
     go f false (List·Memᴰ·head e) g′ = here (ap (λ (z : Slot). z .name) e) g′
     go f false (List·Memᴰ·tail m′) g′ = deep f m′ g′
 
 -- words that differ only where free chunks keep links show the same tags
 pub tags-owned : (f f′ : ℕ → ℕ) (b : ℕ) (l : Bool) (cs : List Chunk) → Legal cs
-    → ((i : ℕ) → ((t : Slot) → In t (frees b cs) → t .name < i + 6 → i + 4 ≤ t .name → ⊥) → f′ i ≡ f i) → Tags f b l cs → Tags f′ b l cs
+    → ((i : ℕ) → ((t : Slot) → Mem t (frees b cs) → t .name < i + 6 → i + 4 ≤ t .name → ⊥) → f′ i ≡ f i) → Tags f b l cs → Tags f′ b l cs
 tags-owned f f′ b l cs g h t = tags-frame f f′ b l cs (λ i u. h i (tag-free b cs g i u)) t
 
 -- two heaps that show one layout have the same tags

@@ -3,7 +3,7 @@ use mathlib.Core.Path.{_≡_}
 use mathlib.Core.Logic.{_≢_, _⊎_}
 use mathlib.Core.Bool.{true}
 use mathlib.Core.List.{List, [], _∷_}
-use Prim.Native.Nat.{ℕ, _+_, _≤_, _<_}
+use Prim.Native.Nat.{ℕ, _+_, _-_, _*_, _≤_, _<_}
 use lib.ListN.{length}
 use Rattle.words.specs.Links.{Width}
 use Rattle.words.specs.Sizes.{roundedOf, thresholdOf}
@@ -31,7 +31,7 @@ Allowable (give p) = Unit {0}
 
 -- the numbers that it may be answered with
 abbrev pub numbersOf : Request → List ℕ
-numbersOf (ask size) = 0 ∷ 1 ∷ 2 ∷ 3 ∷ 5 ∷ []
+numbersOf (ask size) = 0 ∷ 1 ∷ 2 ∷ 3 ∷ 5 ∷ 8 ∷ []
 numbersOf (give p) = 0 ∷ 4 ∷ 5 ∷ []
 
 module _ {S : Type 0} (op : Ops S Figures) (most places : ℕ) where
@@ -95,10 +95,12 @@ module _ {S : Type 0} (op : Ops S Figures) (most places : ℕ) where
   NoFitExactly =
       (s : S) (m : Model) → Shows op most places s m → (size : ℕ) → Allowable (ask size) → Iff (asked s size .number ≡ 3) (NoFit m (roundedOf size))
 
-  -- and as it is seen in the layout: no cached chunk serves, and the longest run of touching free or cached chunks does not reach the threshold
+  -- and, where it may ever fit, as it is seen in the layout: no cached chunk serves, and the longest run of touching free or cached chunks does not reach the
+  -- threshold
   abbrev pub NoFitByRuns : Type 0
   NoFitByRuns =
       (s : S) (m : Model) → Shows op most places s m → (size : ℕ) → Allowable (ask size)
+      → thresholdOf (roundedOf size) ≤ 4 * (m .figs .words - 1)
       → Iff (asked s size .number ≡ 3) (NoneServes m (roundedOf size) × (longestRun (m .figs .cached) 0 0 (m .cs) < thresholdOf (roundedOf size)))
 
   -- 4 exactly where no live payload begins

@@ -1,6 +1,6 @@
 -- THE CLASS LISTS AGAINST CHUNKS: the free chunks by their links, and orders that hold exactly them, each in the list of its class.
 use mathlib.Core.Path.{_≡_}
-use mathlib.Core.List.{List, [], _∷_, List·Memᴰ}
+use mathlib.Core.List.{List, [], _∷_}
 use Prim.Native.Nat.{ℕ, _+_, _/_, _<_}
 use Rattle.words.specs.Choice.{pick}
 use Rattle.rules.specs.Lists.{Mem}
@@ -14,10 +14,6 @@ pub record Slot : Type 0 where
 abbrev pub slot : ℕ → ℕ → Slot
 slot x n = record { name = x; len = n }
 
--- t is one of F
-abbrev pub In : Slot → List Slot → Type 0
-In t F = List·Memᴰ t F
-
 -- the free ones of the chunks from byte b on
 unfoldable pub frees : ℕ → List Chunk → List Slot
 frees b [] = []
@@ -25,5 +21,5 @@ frees b (c ∷ cs) = pick (c .used) (frees (b + c .len) cs) (slot (b / 4 + 6) (c
 
 -- each of F is in the list of its class, and each list below 6 holds only such
 pub record Exact (cls : ℕ → ℕ) (O : ℕ → List ℕ) (F : List Slot) : Type 0 where
-  pub listed : (x n : ℕ) → In (slot x n) F → Mem x (O (cls n))
-  pub only : (k x : ℕ) → k < 6 → Mem x (O k) → (n : ℕ) × In (slot x n) F × (cls n ≡ k)
+  pub listed : (x n : ℕ) → Mem (slot x n) F → Mem x (O (cls n))
+  pub only : (k x : ℕ) → k < 6 → Mem x (O k) → (n : ℕ) × Mem (slot x n) F × (cls n ≡ k)

@@ -6,9 +6,10 @@ use mathlib.Core.Logic.{_≢_, _⊎_}
 use mathlib.Core.List.{List, [], _∷_, _++_}
 use Prim.Native.Nat.{ℕ, _+_, _-_, _*_, _/_, _≤_, _<_}
 use Rattle.words.specs.Sizes.{roundedOf}
+use Rattle.rules.specs.Lists.{Mem}
 use Rattle.rules.specs.Ops.{Ops}
 use Rattle.rules.specs.Chunks.{Chunk, busy, total}
-use Rattle.rules.specs.Exact.{slot, In, frees}
+use Rattle.rules.specs.Exact.{slot, frees}
 use Rattle.rules.specs.Orders.{freeHead, freeLast}
 use Rattle.rules.specs.Rules.{Figures, byteOf, nameOf}
 use Rattle.rules.specs.Machine.{Model, sizeM, withoutCacheM}
@@ -19,7 +20,7 @@ use Rattle.rules.specs.Lives.{liveAt}
 
 -- word i is neither of the two words after the header of a free chunk (links stand there; narrow ones in the first alone)
 abbrev pub NoLink : Model → ℕ → Type 0
-NoLink m i = (x n : ℕ) → In (slot x n) (frees 0 (m .cs)) → (i ≢ x - 5) × (i ≢ x - 4)
+NoLink m i = (x n : ℕ) → Mem (slot x n) (frees 0 (m .cs)) → (i ≢ x - 5) × (i ≢ x - 4)
 
 -- word i lies before word a, or after word b
 abbrev pub Outside : ℕ → ℕ → ℕ → Type 0
@@ -27,7 +28,7 @@ Outside a b i = (i < a) ⊎ (b < i)
 
 -- word i lies in no free chunk, and is not the header right of one
 abbrev pub Clear : Model → ℕ → Type 0
-Clear m i = (x n : ℕ) → In (slot x n) (frees 0 (m .cs)) → Outside (x - 6) (x - 6 + n / 4) i
+Clear m i = (x n : ℕ) → Mem (slot x n) (frees 0 (m .cs)) → Outside (x - 6) (x - 6 + n / 4) i
 
 module _ {S : Type 0} (op : Ops S Figures) (most places : ℕ) where
   -- HANDING OUT at payload v writes words of the chunk there, as long as it was before it was cut, the header right of it, and links; where the cache was

@@ -4,8 +4,9 @@ use mathlib.Core.List.{List, [], _∷_}
 use Prim.Native.Nat.{ℕ, _+_, _≤_, max}
 use lib.Dec.{eqb}
 use Rattle.words.specs.Choice.{pick}
+use Rattle.rules.specs.Lists.{Mem}
 use Rattle.rules.specs.Chunks.{Chunk}
-use Rattle.rules.specs.Exact.{Slot, slot, In}
+use Rattle.rules.specs.Exact.{Slot, slot}
 use Rattle.rules.specs.Rules.{nameOf, listed}
 use Rattle.rules.specs.Machine.{Model}
 
@@ -44,4 +45,4 @@ longest (c ∷ cs) = max (pick (c .used) 0 (c .len)) (longest cs)
 
 -- the n bytes from byte b on lie inside one of F
 abbrev pub Inside : List Slot → ℕ → ℕ → Type 0
-Inside F b n = (e : ℕ) × (l : ℕ) × In (slot (nameOf e) l) F × (e ≤ b) × (b + n ≤ e + l)
+Inside F b n = (e : ℕ) × (l : ℕ) × Mem (slot (nameOf e) l) F × (e ≤ b) × (b + n ≤ e + l)

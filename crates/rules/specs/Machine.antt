@@ -9,7 +9,7 @@ use Rattle.words.specs.Sizes.{classOf, roundedOf, startOf}
 use Rattle.rules.specs.Search.{Found, at, nowhere, lost, find, inTurn}
 use Rattle.rules.specs.Place.{lenAt, indexAt, usedAt}
 use Rattle.rules.specs.Orders.{takenOrders, mergedOrders, freeLast, freeHead, push}
-use Rattle.rules.specs.Rules.{Figures, Outcome, says, byteOf, nameOf, Chosen, none, one, choose, listed, withCached, counted, released}
+use Rattle.rules.specs.Rules.{Figures, Outcome, says, byteOf, nameOf, Chosen, none, one, never, choose, listed, withCached, counted, released}
 use Rattle.rules.specs.Steps.{portion}
 use Rattle.rules.specs.Making.{begun}
 
@@ -85,7 +85,8 @@ fromCacheM m z none = fromListM m z (searchM m z)
 unfoldable pub handOutM : Model → ℕ → Outcome Model
 handOutM m size =
     let serve = fromCacheM m (roundedOf size) (choose (sizeM m) (roundedOf size) (m .figs .cached)) in
-    pick (eqb size 0) (says 1 0 0 m) (pick (ltb 4294967284 size) (says 2 0 0 m) serve)
+    let may = pick (never (m .figs .words) (roundedOf size)) (says 8 0 0 m) serve in
+    pick (eqb size 0) (says 1 0 0 m) (pick (ltb 4294967284 size) (says 2 0 0 m) may)
 
 -- TAKING BACK: the length of the live chunk whose payload begins at p, 0 where none does
 unfoldable pub liveM : Model → ℕ → ℕ

@@ -3,7 +3,7 @@ use mathlib.Core.Bool.{Bool, false}
 use mathlib.Core.List.{List, [], _∷_}
 use Prim.Native.Nat.{ℕ, _-_, _*_, _%_}
 use lib.Dec.{eqb, leb}
-use lib.ListN.{length}
+use lib.ListN.{length, replicate}
 use Rattle.words.specs.Choice.{pick}
 use Rattle.words.specs.Links.{Width}
 use Rattle.rules.specs.Steps.{oneChunk}
@@ -14,10 +14,7 @@ use Rattle.rules.specs.Rules.{Figures, Outcome, says}
 abbrev pub State : Type 0
 State = Heap Figures
 
--- six links 0, and six that name their own sentinels
-abbrev pub zeros : List ℕ
-zeros = 0 ∷ 0 ∷ 0 ∷ 0 ∷ 0 ∷ 0 ∷ []
-
+-- six links that name their own sentinels
 abbrev pub selves : List ℕ
 selves = 0 ∷ 1 ∷ 2 ∷ 3 ∷ 4 ∷ 5 ∷ []
 
@@ -27,7 +24,7 @@ begun n = record { words = n; cached = []; inUse = 0; committed = 0; peak = 0; h
 
 -- the empty record over the words ws; and one with empty lists
 abbrev pub empty : List ℕ → State
-empty ws = record { prevs = zeros; nexts = zeros; words = ws; rest = begun 0 }
+empty ws = record { prevs = replicate 6 0; nexts = replicate 6 0; words = ws; rest = begun 0 }
 
 abbrev pub fresh : List ℕ → State
 fresh ws = record { prevs = selves; nexts = selves; words = ws; rest = begun (length ws) }

@@ -4,13 +4,13 @@ use mathlib.Core.Path.{_≡_}
 use mathlib.Core.Logic.{_≢_, _⊎_}
 use mathlib.Core.Bool.{false}
 use mathlib.Core.List.{List}
-use Prim.Native.Nat.{ℕ, _+_, _-_, _≤_, _<_, max}
+use Prim.Native.Nat.{ℕ, _+_, _-_, _*_, _≤_, _<_, max}
 use lib.ListN.{length, getD}
 use Rattle.words.specs.Sizes.{roundedOf, thresholdOf}
 use Rattle.words.specs.Links.{Width, prev, next}
 use Rattle.rules.specs.Lists.{Mem}
 use Rattle.rules.specs.Ops.{Ops}
-use Rattle.rules.specs.Exact.{slot, In, frees}
+use Rattle.rules.specs.Exact.{slot, frees}
 use Rattle.rules.specs.Steps.{lengthAt}
 use Rattle.rules.specs.Rules.{Figures, serves, withoutCache, withoutCacheF}
 use Rattle.rules.specs.Making.{make}
@@ -56,19 +56,31 @@ module _ {S : Type 0} (op : Ops S Figures) (most places : ℕ) where
       → Shows op most places (run (acts op most places) es s) (steps (machine places) (requests es) m)
 
   -- EXACTLY WHEN, whatever the state
-  -- NOTHING FITS z bytes: the state is sound, no cached chunk serves, and no free chunk of the layout with the cache emptied reaches the threshold
+  -- NEVER: the threshold for z bytes exceeds the heap's bytes less 4
+  abbrev pub Never : S → ℕ → Type 0
+  Never s z = 4 * (op .count s - 1) < thresholdOf z
+
+  -- NOTHING FITS z bytes, but may at another time: the state is sound, no cached chunk serves, and no free chunk of the layout with the cache emptied reaches
+  -- the threshold
   pub record Unfit (s : S) (z : ℕ) : Type 0 where
     pub sound : Sound op most places s
+    pub may : thresholdOf z ≤ 4 * (op .count s - 1)
     pub cache : (x : ℕ) → Mem x (op .rest s .cached) → serves (lengthAt op s x) z ≡ false
     pub merged : Model
     pub shows : Shows op most places (withoutCache op s) merged
-    pub lists : (x n : ℕ) → In (slot x n) (frees 0 (merged .cs)) → n < thresholdOf z
+    pub lists : (x n : ℕ) → Mem (slot x n) (frees 0 (merged .cs)) → n < thresholdOf z
 
-  -- a handout is done exactly for an allowable size, on a sound state, where something fits
+  -- a handout is done exactly for an allowable size that may ever fit, on a sound state, where something fits
   abbrev pub ServedExactly : Type 0
   ServedExactly =
       (s : S) (size : ℕ)
-      → Iff (asked op most places s size .number ≡ 0) (Allowable (ask size) × Sound op most places s × (Unfit s (roundedOf size) → ⊥))
+      → Iff (asked op most places s size .number ≡ 0)
+      (Allowable (ask size) × Sound op most places s × (Never s (roundedOf size) → ⊥) × (Unfit s (roundedOf size) → ⊥))
+
+  -- 8 exactly for an allowable size that can never fit, on a sound state
+  abbrev pub EightExactly : Type 0
+  EightExactly =
+      (s : S) (size : ℕ) → Iff (asked op most places s size .number ≡ 8) (Allowable (ask size) × Sound op most places s × Never s (roundedOf size))
 
   -- 3 exactly for an allowable size, on a sound state, where nothing fits
   abbrev pub ThreeExactly : Type 0
@@ -116,6 +128,7 @@ module _ {S : Type 0} (op : Ops S Figures) (most places : ℕ) where
     pub step : AsTheMachine
     pub runs : RunAsTheMachine
     pub served : ServedExactly
+    pub eight : EightExactly
     pub three : ThreeExactly
     pub five : FiveExactly
     pub taken : TakenExactly

@@ -6,14 +6,14 @@ use Prim.Native.Nat.{ℕ, _+_, _-_, _*_, _/_, max}
 use lib.Dec.{eqb, leb, ltb}
 use lib.ListN.{length}
 use Rattle.words.specs.Choice.{pick}
-use Rattle.words.specs.Sizes.{roundedOf, startOf}
+use Rattle.words.specs.Sizes.{roundedOf, startOf, thresholdOf}
 use Rattle.rules.specs.Ops.{Ops}
 use Rattle.rules.specs.Steps.{portion, lengthAt, takeChunk, emptied, releaseChunk}
 use Rattle.rules.specs.Search.{Found, at, nowhere, lost, find, inTurn}
 use Rattle.rules.specs.Lists.{walk}
 use Rattle.rules.specs.Place.{usedAt, tile}
 
--- what the record holds beside its links; the cached chunks by their links, oldest first; in use as tasks hold it, and committed, which counts the cached
+-- what the record holds besides its links; the cached chunks by their links, oldest first; in use as tasks hold it, and committed, which counts the cached
 -- chunks too
 pub record Figures : Type 0 where
   pub words : ℕ
@@ -55,6 +55,10 @@ behind x (one y ys) = one y (x ∷ ys)
 -- n bytes serve a rounded size z: at least z and at most z + 512
 abbrev pub serves : ℕ → ℕ → Bool
 serves n z = pick (leb z n) (leb n (z + 512)) false
+
+-- NEVER: the threshold of a rounded size z exceeds the bytes that n words have before the guard
+abbrev pub never : ℕ → ℕ → Bool
+never n z = ltb (4 * (n - 1)) (thresholdOf z)
 
 -- the oldest one that serves
 unfoldable pub choose : (ℕ → ℕ) → ℕ → List ℕ → Chosen
@@ -139,9 +143,11 @@ module _ {S : Type 0} (op : Ops S Figures) where
   unfoldable pub serve : S → ℕ → Outcome S
   serve s z = fromCache s z (choose (lengthAt op s) z (op .rest s .cached))
 
-  -- size bytes asked: 1, 2, 5 in that order, else served
+  -- size bytes asked: 1, 2, 5, 8 in that order, else served
   unfoldable pub handOut : (S → Bool) → S → ℕ → Outcome S
-  handOut sound s size = pick (eqb size 0) (says 1 0 0 s) (pick (ltb 4294967284 size) (says 2 0 0 s) (pick (sound s) (serve s (roundedOf size)) (says 5 0 0 s)))
+  handOut sound s size =
+      let may = pick (never (op .count s) (roundedOf size)) (says 8 0 0 s) (serve s (roundedOf size)) in
+      pick (eqb size 0) (says 1 0 0 s) (pick (ltb 4294967284 size) (says 2 0 0 s) (pick (sound s) may (says 5 0 0 s)))
 
   -- TAKING BACK: the length of the live chunk whose payload begins at p, 0 where none does
   unfoldable pub live : S → ℕ → ℕ

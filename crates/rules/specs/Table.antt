@@ -59,22 +59,25 @@ table =
     making 4 6 ∷ making 65530 6 ∷ making 65531 6 ∷ making 65529 0
     -- 33 words made: words 0, 1, 31, 32; sentinel 3
     ∷ word 33 [] 0 129 ∷ word 33 [] 1 196611 ∷ word 33 [] 31 128 ∷ word 33 [] 32 2 ∷ links 33 3 6
-    -- 5 words and 7 words, ask 1: no fit
-    ∷ last 5 (ask 1 ∷ []) 3 0 0 ∷ last 7 (ask 1 ∷ []) 3 0 0
+    -- 5 words and 7 words, ask 1: never fits
+    ∷ last 5 (ask 1 ∷ []) 8 0 0 ∷ last 7 (ask 1 ∷ []) 8 0 0
     -- 9 words, ask 12: offset 4, 16 left over; ask 1 next: no fit
     ∷ last 9 (ask 12 ∷ []) 0 4 1 ∷ word 9 (ask 12 ∷ []) 4 17 ∷ last 9 (ask 12 ∷ ask 1 ∷ []) 3 0 0
-    -- 9 words, ask 20: the whole 32; ask 28: no fit
-    ∷ last 9 (ask 20 ∷ []) 0 4 1 ∷ word 9 (ask 20 ∷ []) 0 35 ∷ last 9 (ask 28 ∷ []) 3 0 0
+    -- 9 words, ask 20: the whole 32; ask 28: never fits, not even with the 32 cached
+    ∷ last 9 (ask 20 ∷ []) 0 4 1 ∷ word 9 (ask 20 ∷ []) 0 35 ∷ last 9 (ask 28 ∷ []) 8 0 0
+    ∷ last 9 (ask 20 ∷ give 4 ∷ ask 28 ∷ []) 8 0 0
     -- sizes 1 and 12 round to 16, 13 to 24
     ∷ rounds 1 16 ∷ rounds 12 16 ∷ rounds 13 24
-    -- size 4,294,967,284 rounds to 4,294,967,288: no fit; 4,294,967,285: refused 2
-    ∷ rounds 4294967284 4294967288 ∷ last 33 (ask 4294967284 ∷ []) 3 0 0 ∷ last 33 (ask 4294967285 ∷ []) 2 0 0
+    -- size 4,294,967,284 rounds to 4,294,967,288: never fits; 4,294,967,285: refused 2
+    ∷ rounds 4294967284 4294967288 ∷ last 33 (ask 4294967284 ∷ []) 8 0 0 ∷ last 33 (ask 4294967285 ∷ []) 2 0 0
     -- cached 536 serves s = 24; cached 544 doesn't
     ∷ last 333 (ask 532 ∷ give 4 ∷ ask 13 ∷ []) 0 4 0 ∷ last 333 (ask 540 ∷ give 4 ∷ ask 13 ∷ []) 0 548 1
-    -- 9 words, ask 12, free it, ask 20: served once the cache is emptied; 28 would not be: 32 bytes do not reach 64
-    ∷ last 9 (ask 12 ∷ give 4 ∷ ask 20 ∷ []) 0 4 1 ∷ last 9 (ask 12 ∷ give 4 ∷ ask 28 ∷ []) 3 0 0
-    -- no fit counts both searches, with nothing cached too; and all is as it was: the cached chunk still serves
-    ∷ last 131 (ask 541 ∷ []) 3 0 2 ∷ last 139 (ask 12 ∷ ask 4 ∷ give 4 ∷ ask 541 ∷ []) 3 0 2
+    -- 9 words, ask 12, free it, ask 20: served once the cache is emptied
+    ∷ last 9 (ask 12 ∷ give 4 ∷ ask 20 ∷ []) 0 4 1
+    -- 17 words, ask 12 three times, free two, ask 28: emptied or not, 32 bytes do not reach 64
+    ∷ last 17 (ask 12 ∷ ask 12 ∷ ask 12 ∷ give 4 ∷ give 20 ∷ ask 28 ∷ []) 3 0 0
+    -- no fit counts both searches, with nothing cached too; and all is as it was: the cached chunk still serves. In 131 words it could never fit
+    ∷ last 131 (ask 541 ∷ []) 8 0 0 ∷ last 139 (ask 12 ∷ ask 541 ∷ []) 3 0 2 ∷ last 139 (ask 12 ∷ ask 4 ∷ give 4 ∷ ask 541 ∷ []) 3 0 2
     ∷ last 139 (ask 12 ∷ ask 4 ∷ give 4 ∷ ask 541 ∷ ask 12 ∷ []) 0 4 0
     ∷ []
 

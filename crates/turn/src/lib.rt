@@ -107,6 +107,7 @@ fn tell(out: Out) -> Reply
         Answer::NotLive => refuse(rec, 4),
         Answer::Damaged => refuse(rec, 5),
         Answer::BadLength => refuse(rec, 6),
+        Answer::NeverFits => refuse(rec, 8),
     }
 }
 

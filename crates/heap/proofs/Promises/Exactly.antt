@@ -1,5 +1,5 @@
 -- EACH ANSWER EXACTLY WHEN, for any record, words and number; what comes with it; which chunk is handed out, and how many were compared. 3 is
--- `demand-2-no-fit-exact`, and "at most one below 512" `demand-2-few-compared`. Assumes nothing.
+-- `demand-2-no-fit-exact`, 8 `demand-2-never-exact`, and "at most one below 512" `demand-2-few-compared`. Assumes nothing.
 --     sizes-exactly     1 and 2
 --     served-exactly, taken-exactly     done
 --     four-exactly, four-by-layout     4, by what `liveIn` gives and by the layout
@@ -10,7 +10,7 @@
 use mathlib.Core.Path.{_≡_, sym, ap, _∙_, subst}
 use mathlib.Core.Logic.{_≢_, _⊎_}
 use mathlib.Core.List.{List}
-use Prim.Native.Nat.{ℕ, _+_, _≤_, _<_}
+use Prim.Native.Nat.{ℕ, _+_, _-_, _*_, _≤_, _<_}
 use lib.ListN.{length}
 use Rattle.words.specs.Sizes.{roundedOf, thresholdOf}
 use Rattle.rules.specs.Rules.{Outcome}
@@ -27,7 +27,7 @@ use Rattle.heap.specs.declared.record.Record.{Record}
 use Rattle.heap.specs.declared.calls.Out.{Out}
 use Rattle.heap.specs.Seen.{seen, base}
 use Rattle.heap.specs.Answer.{number, value, compared}
-use Rattle.heap.specs.Promises.{Makes, HandsOut, TakesBack, Calls, ShowsIn, SoundIn, UnfitIn, liveIn}
+use Rattle.heap.specs.Promises.{Makes, HandsOut, TakesBack, Calls, ShowsIn, SoundIn, NeverIn, UnfitIn, liveIn}
 use Rattle.heap.proofs.Histories.{outcome-call}
 use Rattle.rules.specs.Lists.{Mem}
 use Rattle.rules.specs.Promises.{Promises}
@@ -52,11 +52,13 @@ module _ (places : ℕ) where
         let b = ours .large (seen r ws) n in
         ((λ z. a .0 (sym q ∙ z), λ z. q ∙ a .1 z), (λ z. b .0 (sym q ∙ z), λ z. q ∙ b .1 z))
 
-    -- a handout is done exactly for an allowable size, on a sound heap where something fits
+    -- a handout is done exactly for an allowable size that may ever fit, on a sound heap where something fits
     pub served-exactly : HandsOut places r ws n o vs
-        → Iff (number (o .answer) ≡ 0) (Allowable (ask n) × SoundIn places r ws × (UnfitIn places r ws (roundedOf n) → ⊥))
+        → Iff (number (o .answer) ≡ 0)
+        (Allowable (ask n) × SoundIn places r ws × (NeverIn ws (roundedOf n) → ⊥) × (UnfitIn places r ws (roundedOf n) → ⊥))
     served-exactly e =
-        subst (λ (x : Outcome State). Iff (x .number ≡ 0) (Allowable (ask n) × SoundIn places r ws × (UnfitIn places r ws (roundedOf n) → ⊥))) (sym e)
+        subst (λ (x : Outcome State). Iff (x .number ≡ 0)
+        (Allowable (ask n) × SoundIn places r ws × (NeverIn ws (roundedOf n) → ⊥) × (UnfitIn places r ws (roundedOf n) → ⊥))) (sym e)
         (told .served (seen r ws) n)
 
     -- a free is done exactly on a sound heap with a live payload there
@@ -80,10 +82,13 @@ module _ (places : ℕ) where
       -- 3 as it is seen in the layout: no cached chunk serves, and no run of touching free or cached chunks reaches the threshold
       pub no-fit-by-runs : HandsOut places r ws n o vs
           → Allowable (ask n)
+          -- it may ever fit
+          → thresholdOf (roundedOf n) ≤ 4 * (length ws - 1)
           → Iff (number (o .answer) ≡ 3) (NoneServes m (roundedOf n) × (longestRun (m .figs .cached) 0 0 (m .cs) < thresholdOf (roundedOf n)))
-      no-fit-by-runs e a =
+      no-fit-by-runs e a k =
           let q = ap (λ (q : Outcome State). q .number) e in
-          (λ z. ours .byRuns (seen r ws) m h n a .0 (sym q ∙ z), λ z. q ∙ ours .byRuns (seen r ws) m h n a .1 z)
+          let w = ours .byRuns (seen r ws) m h n a (subst (λ (i : ℕ). thresholdOf (roundedOf n) ≤ 4 * (i - 1)) (sym (h .words)) k) in
+          (λ z. w .0 (sym q ∙ z), λ z. q ∙ w .1 z)
 
       -- below 512 at most one free chunk is compared; for no fit none below 512, else the whole class 5 list and that with every cached chunk released
       pub compared-exactly : HandsOut places r ws n o vs

@@ -71,6 +71,10 @@ module _ (places : ℕ) where
         ap (λ (g : Figures). g .flag) f,
       )
 
+  -- the length handed out, in an outcome of the rules
+  abbrev handed : Outcome State → ℕ
+  handed x = liveAt base 65529 places (x .after) (x .value)
+
   -- a handout with count 0, from the cache: in use grows by the length handed out, l, and committed, peak, high water and flag stay; with another count, from a
   -- list: in use and committed grow by l, peak and high water rise to what is now committed and to the chunk's end, and the flag goes on where high water rose;
   -- the same where the cache was emptied for it, from the figures with the cache empty: committed was what tasks hold
@@ -85,10 +89,10 @@ module _ (places : ℕ) where
       ⊎ CountedUp (withoutCacheF (figuresOf r)) (figuresOf (o .rec)) l (value (o .answer) - 4 + l))
   figures-handed-out r ws vs n o e z =
       subst (λ (x : Outcome State). x .number ≡ 0
-      → (x .compared ≡ 0 → HeldOnly (figuresOf r) (x .after .rest) (r .«in_use» + liveAt base 65529 places (x .after) (x .value)))
+      → (x .compared ≡ 0 → HeldOnly (figuresOf r) (x .after .rest) (r .«in_use» + handed x))
       × (0 < x .compared
-      → let l = liveAt base 65529 places (x .after) (x .value) in
-      CountedUp (figuresOf r) (x .after .rest) l (x .value - 4 + l) ⊎ CountedUp (withoutCacheF (figuresOf r)) (x .after .rest) l (x .value - 4 + l)))
+      → CountedUp (figuresOf r) (x .after .rest) (handed x) (x .value - 4 + handed x)
+      ⊎ CountedUp (withoutCacheF (figuresOf r)) (x .after .rest) (handed x) (x .value - 4 + handed x)))
       (sym e) (told .handedFigures (seen r ws) n) z
 
   -- after taking back

@@ -1,13 +1,14 @@
 -- SOUND AND DETERMINED: making gives a sound heap, the calls keep it so, and a contract leaves nothing open. Assumes nothing.
 --     made-sound, sound-kept
+--     one-layout     what a sound pair shows is unique
 --     calls-determined, making-determined     any two outcomes that a contract allows for one input are the same outcome
 use mathlib.Core.Path.{_≡_, sym, ap, _∙_, subst}
 use mathlib.Core.List.{List}
-use Prim.Native.Nat.{ℕ}
+use Prim.Native.Nat.{ℕ, _<_}
 use lib.ListN.{length}
 use Rattle.rules.specs.Rules.{Outcome}
 use Rattle.rules.specs.Making.{State}
-use Rattle.rules.specs.Machine.{Request, madeM}
+use Rattle.rules.specs.Machine.{Model, Request, madeM}
 use Rattle.rules.specs.Sound.{Shows, Sound}
 use Rattle.rules.specs.Claims.{Demands}
 use Rattle.rules.proofs.Proved.{narrow-demands, narrow-making}
@@ -38,6 +39,13 @@ module _ (places : ℕ) where
       → SoundIn places r ws
       → SoundIn places (o .rec) vs
   sound-kept r ws vs k o e h = subst (Sound base 65529 places) (sym (after-call places r ws vs k o e)) (ours .kept k (seen r ws) h)
+
+  -- a sound pair has one layout, one order of each list and one set of figures
+  pub one-layout : (r : Record) (ws : List ℕ) (m n : Model)
+      → ShowsIn places r ws m
+      → ShowsIn places r ws n
+      → (m .cs ≡ n .cs) × ((k : ℕ) → k < 6 → m .orders k ≡ n .orders k) × (m .figs ≡ n .figs)
+  one-layout r ws = ours .unique (seen r ws)
 
   pub calls-determined : (r : Record) (ws vs us : List ℕ) (k : Request) (o p : Out)
       → Calls places k r ws o vs

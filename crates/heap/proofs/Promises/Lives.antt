@@ -1,7 +1,6 @@
 -- WHAT IS LIVE, pointwise: `liveIn r ws p` is the length of the live chunk whose payload begins at offset p, and 0 where none does. Assumes nothing.
 --     live-made, live-handed-out, live-taken-back     long enough, new, and every other payload stays live with its length
 --     live-place, live-apart     no payload leaves the heap, no two overlap
---     arrives-empty     a payload arrives empty
 --     handing-out-keeps, taking-back-keeps     no call changes a word of a live payload, but of the one given back
 use mathlib.Core.Path.{_≡_, sym, ap, _∙_, subst}
 use mathlib.Core.Logic.{_≢_}
@@ -16,8 +15,7 @@ use Rattle.rules.specs.Machine.{Model, ask}
 use Rattle.rules.specs.Sound.{Shows}
 use Rattle.rules.specs.Demands.{LiveAt, Holds}
 use Rattle.rules.specs.Claims.{Demands}
-use Rattle.rules.proofs.Proved.{narrow-demands, narrow-edition}
-use Rattle.rules.proofs.LiveWords.{live-length}
+use Rattle.rules.proofs.Proved.{narrow-demands}
 use Rattle.heap.specs.declared.record.Record.{Record}
 use Rattle.heap.specs.declared.calls.Out.{Out}
 use Rattle.heap.specs.Seen.{seen, base}
@@ -136,15 +134,3 @@ module _ (places : ℕ) where
           λ i p. ap (λ (t : State). at (t .words) i) s ∙ f .2 i (subst (λ (x : ℕ). Holds x (f .0) i) v p),
         ),
       )
-
-  -- PAYLOADS ARRIVE EMPTY: every word of what is handed out, up to its chunk's end, is 0
-  pub arrives-empty : (r : Record) (ws vs : List ℕ) (n : ℕ) (o : Out) (i : ℕ)
-      → HandsOut places r ws n o vs
-      → number (o .answer) ≡ 0
-      -- word i lies in the payload
-      → Holds (value (o .answer)) (liveIn (o .rec) vs (value (o .answer))) i
-      → at vs i ≡ 0
-  arrives-empty r ws vs n o i e z w =
-      let t = empty-there r ws vs n o e z in
-      let l = live-length (narrow-edition places) (seen (o .rec) vs) (t .0) (t .1) (value (o .answer)) (t .2 .0) (t .2 .1) in
-      t .2 .2 i (subst (λ (k : ℕ). Holds (value (o .answer)) k i) l w)

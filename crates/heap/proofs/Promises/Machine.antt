@@ -1,16 +1,20 @@
 -- AS THE RULES WITHOUT MEMORY: layout, six orders, figures and answers, after a call and after any run; and one step of demand 3, by itself. Assumes nothing.
 --     one-step, run-steps, run-answers     what a machine that has no memory does
+--     same-seen, alike-at-handout     two runs of the same requests: what they have in common, and the words of what is then handed out
 --     alike-made, alike-call, alike-stores, alike-turned, alike-live     two heaps that show one model
-use mathlib.Core.Path.{_≡_, refl, sym, _∙_, subst}
+use mathlib.Core.Path.{_≡_, refl, sym, ap, _∙_, subst}
 use mathlib.Core.List.{List}
 use Prim.Native.Nat.{ℕ}
 use lib.ListN.{length, set}
+use Rattle.words.specs.Tags.{at}
+use Rattle.rules.specs.Rules.{Outcome}
 use Rattle.rules.specs.Making.{State}
 use Rattle.rules.specs.Machine.{Model, Request, madeM, stepsM, repliesM, answerOf, callM}
 use Rattle.rules.specs.Machine as rule
 use Rattle.rules.specs.Sound.{Shows}
+use Rattle.rules.specs.Demands.{LiveAt, Holds}
 use Rattle.rules.specs.TwoRuns.{Event, requests, run}
-use Rattle.rules.specs.Runs.{acts}
+use Rattle.rules.specs.Runs.{acts, Same}
 use Rattle.rules.specs.Claims.{Demands}
 use Rattle.rules.proofs.Proved.{narrow-demands, narrow-edition}
 use Rattle.rules.proofs.Promises.{narrow-promises}
@@ -18,13 +22,14 @@ use Rattle.rules.proofs.Runs.{steps-machine, replies-machine, write-shows}
 use Rattle.heap.specs.declared.record.Record.{Record}
 use Rattle.heap.specs.declared.calls.Out.{Out}
 use Rattle.heap.specs.Seen.{seen, base}
-use Rattle.heap.specs.Answer.{number, said}
-use Rattle.heap.specs.Promises.{Makes, Calls, LiveIn, FromMaking, ShowsIn, liveIn}
+use Rattle.heap.specs.Answer.{number, value, said}
+use Rattle.heap.specs.Promises.{Makes, HandsOut, Calls, LiveIn, FromMaking, ShowsIn, liveIn}
 use Rattle.heap.proofs.Histories.{after-call, history, answer-call}
 use Rattle.rules.specs.Promises.{Promises}
 use Rattle.rules.proofs.Lives.{live-shown}
-use Rattle.rules.proofs.LiveWords.{live-found}
+use Rattle.rules.proofs.LiveWords.{live-length, live-found}
 use Rattle.heap.proofs.Promises.Kept.{made-sound}
+use Rattle.heap.proofs.Promises.Lives.{empty-there}
 
 module _ (places : ℕ) where
   -- the demands, of narrow links
@@ -43,8 +48,8 @@ module _ (places : ℕ) where
       × ShowsIn places (o .rec) vs (callM places k m .after)
   one-step r ws vs k o m e h =
       let w = told .step k (seen r ws) m h in
-      let left = sym (after-call places r ws vs k o e) in
-      (answer-call places r ws vs k o e ∙ w .0, subst (λ (s : State). Shows base 65529 places s (callM places k m .after)) left (w .1))
+      let s = after-call places r ws vs k o e in
+      (answer-call places r ws vs k o e ∙ w .0, subst (λ (v : State). Shows base 65529 places v (callM places k m .after)) (sym s) (w .1))
 
   -- what a heap from making on showed at first
   pub made-shown : (n : ℕ) (es : List (Event Request)) (bs : List rule.Answer) (q : Record) (vs : List ℕ) (x : FromMaking places n es bs q vs)
@@ -105,8 +110,8 @@ module _ (places : ℕ) where
       → LiveIn places r ws i
       → Alike r (set ws i v) q us
   alike-stores r q ws us i v a l =
-      let found = live-found (narrow-edition places) (seen r ws) i (l .1 .0) (l .0) (l .1 .1) in
-      (a .0, write-shows (narrow-edition places) (seen r ws) (a .0) i v (a .1) found, a .2)
+      let E = narrow-edition places in
+      (a .0, write-shows E (seen r ws) (a .0) i v (a .1) (live-found E (seen r ws) i (l .1 .0) (l .0) (l .1 .1)), a .2)
 
   -- the other way round
   pub alike-turned : (r q : Record) (ws us : List ℕ)
@@ -120,3 +125,44 @@ module _ (places : ℕ) where
       → liveIn r ws p ≡ liveIn q us p
   alike-live r q ws us p a =
       live-shown (narrow-edition places) (seen r ws) (a .0) (a .1) p ∙ sym (live-shown (narrow-edition places) (seen q us) (a .0) (a .2) p)
+
+  -- ---- TWO RUNS
+
+  -- what the two runs have in common, but for the records
+  pub same-seen : (n : ℕ) (es fs : List (Event Request)) (bs cs : List rule.Answer) (q t : Record) (vs us : List ℕ)
+      → FromMaking places n es bs q vs
+      → FromMaking places n fs cs t us
+      → requests es ≡ requests fs
+      → (bs ≡ cs) × Same base 65529 places (seen q vs) (seen t us)
+  same-seen n es fs bs cs q t vs us x y s =
+      let a = history places (x .runs) in
+      let b = history places (y .runs) in
+      let first = seen (x .out .rec) (x .words) in
+      let second = seen (y .out .rec) (y .words) in
+      let r = ours .runs es fs first second (madeM n) s (made-shown n es bs q vs x) (made-shown n fs cs t us y) (a .0) (b .0) in (
+        a .1 ∙ r .1 ∙ sym (b .1),
+        subst (λ (v : State). Same base 65529 places v (seen t us)) (sym (a .2))
+            (subst (λ (v : State). Same base 65529 places (run (acts base 65529 places) es first) v) (sym (b .2)) (r .2)),
+      )
+
+  -- the two runs of `demand-3-two-runs`, and the same handout after each
+  pub alike-at-handout : (n size i : ℕ) (es fs : List (Event Request)) (bs cs : List rule.Answer) (q t : Record) (vs vs₁ us us₁ : List ℕ) (a b : Out)
+      → FromMaking places n es bs q vs
+      → FromMaking places n fs cs t us
+      → requests es ≡ requests fs
+      → HandsOut places q vs size a vs₁
+      → HandsOut places t us size b us₁
+      → number (a .answer) ≡ 0
+      -- word i lies in the payload that the first heap handed out
+      → Holds (value (a .answer)) (liveIn (a .rec) vs₁ (value (a .answer))) i
+      → at vs₁ i ≡ at us₁ i
+  alike-at-handout n size i es fs bs cs q t vs vs₁ us us₁ a b x y s ha hb z w =
+      let r = same-seen n es fs bs cs q t vs us x y s .1 in
+      let sa = ap (λ (o : Outcome State). o .after) ha in
+      let va = ap (λ (o : Outcome State). o .value) ha in
+      let e = empty-there places q vs vs₁ size a ha z in
+      let l = live-length (narrow-edition places) (seen (a .rec) vs₁) (e .0) (e .1) (value (a .answer)) (e .2 .0) (e .2 .1) in
+      let f = ours .alike (seen q vs) (seen t us) (r .shows) (e .0) size (r .left) (r .right) (sym (ap (λ (o : Outcome State). o .number) ha) ∙ z)
+      (subst (λ (v : State). Shows base 65529 places v (e .0)) sa (e .1)) (e .2 .0) i (subst (λ (p : ℕ). LiveAt (e .0) p (e .2 .0)) va (e .2 .1))
+      (subst (λ (p : ℕ). Holds p (e .2 .0) i) va (subst (λ (k : ℕ). Holds (value (a .answer)) k i) l w)) in
+      ap (λ (v : State). at (v .words) i) sa ∙ f ∙ sym (ap (λ (o : Outcome State). at (o .after .words) i) hb)

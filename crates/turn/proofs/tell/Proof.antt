@@ -41,6 +41,12 @@ enum-told-5 c = search needs
 refuse-requires-5 : tie.Need-refuse-requires-5
 refuse-requires-5 c κs = search needs
 
+enum-told-6 : tie.Need-enum-told-6
+enum-told-6 c = search needs
+
+refuse-requires-6 : tie.Need-refuse-requires-6
+refuse-requires-6 c κs = search needs
+
 returns : tie.Need-returns
 returns c = tell-by _ _ _ (c .before .answer .given .1) refl
 
@@ -62,6 +68,9 @@ returns-6 c = tell-by _ _ _ (c .before .enum-told4 .given .1) (c .refuse4 .ensur
 returns-7 : tie.Need-returns-7
 returns-7 c = tell-by _ _ _ (c .before .enum-told5 .given .1) (c .refuse5 .ensures)
 
+returns-8 : tie.Need-returns-8
+returns-8 c = tell-by _ _ _ (c .before .enum-told6 .given .1) (c .refuse6 .ensures)
+
 pub tell-spec : {M : Type 1} → statement M
 tell-spec =
     tie.close
@@ -78,10 +87,13 @@ tell-spec =
     refuse-requires-4
     enum-told-5
     refuse-requires-5
+    enum-told-6
+    refuse-requires-6
     returns
     returns-2
     returns-3
     returns-4
     returns-5
     returns-6
-    returns-7)
+    returns-7
+    returns-8)

@@ -47,6 +47,12 @@ enum-told-5 c = search needs
 of-requires-7 : tie.Need-of-requires-7
 of-requires-7 c κs = search needs
 
+enum-told-6 : tie.Need-enum-told-6
+enum-told-6 c = search needs
+
+of-requires-8 : tie.Need-of-requires-8
+of-requires-8 c κs = search needs
+
 returns : tie.Need-returns
 returns c = c .of .ensures ∙ sym (ap replyOf (c .before .before .a .given .1))
 
@@ -68,6 +74,9 @@ returns-6 c = c .of6 .ensures ∙ sym (ap replyOf (c .before .enum-told4 .given 
 returns-7 : tie.Need-returns-7
 returns-7 c = c .of7 .ensures ∙ sym (ap replyOf (c .before .enum-told5 .given .1))
 
+returns-8 : tie.Need-returns-8
+returns-8 c = c .of8 .ensures ∙ sym (ap replyOf (c .before .enum-told6 .given .1))
+
 pub reply-of-spec : {M : Type 1} → statement M
 reply-of-spec =
     tie.close
@@ -86,10 +95,13 @@ reply-of-spec =
     of-requires-6
     enum-told-5
     of-requires-7
+    enum-told-6
+    of-requires-8
     returns
     returns-2
     returns-3
     returns-4
     returns-5
     returns-6
-    returns-7)
+    returns-7
+    returns-8)
