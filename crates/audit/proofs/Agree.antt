@@ -18,15 +18,15 @@ use Rattle.words.specs.Numbers.{numbers}
 use Rattle.cache.specs.Places.{cachedOf}
 use Rattle.words.proofs.Laws.Numbers.{length-numbers}
 use Rattle.words.proofs.Laws.Sizes.{class-below}
-use Rattle.rules.specs.Lists.{Mem, Seg}
-use Rattle.rules.specs.Chunks.{Legal}
-use Rattle.rules.specs.Exact.{Slot, slot, frees}
-use Rattle.rules.specs.State.{ops}
-use Rattle.rules.specs.Machine.{Model}
-use Rattle.rules.specs.Sound.{CacheRight, FiguresRight, Shows, Sound}
-use Rattle.rules.specs.Test.{soundᵇ}
-use Rattle.rules.proofs.Proved.{narrow-demands}
-use Rattle.rules.proofs.LiveSums.{live-and-held}
+use Rattle.rules.specs.Rules.Lists.{Mem, Seg}
+use Rattle.rules.specs.Rules.Chunks.{Legal}
+use Rattle.rules.specs.Sound.Exact.{Slot, slot, frees}
+use Rattle.rules.specs.Rules.State.{ops}
+use Rattle.rules.specs.Sound.Model.{Model}
+use Rattle.rules.specs.Sound.Sound.{CacheRight, FiguresRight, Shows, Sound}
+use Rattle.rules.specs.Sound.Test.{soundᵇ}
+use Rattle.rules.proofs.Demands.Proved.{narrow-demands}
+use Rattle.rules.proofs.Tiling.LiveSums.{live-and-held}
 use Rattle.audit.specs.declared.Figures.{Figures}
 use Rattle.audit.specs.Shown.{shown}
 use Rattle.audit.specs.Layout.{Chunk, free, used, pick, Tiles, freeLinks}

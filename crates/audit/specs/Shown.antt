@@ -4,8 +4,8 @@ use mathlib.Core.List.{List}
 use Prim.Native.Nat.{ℕ}
 use Rattle.words.specs.declared.names.Link.{Link}
 use Rattle.words.specs.Numbers.{numbers}
-use Rattle.rules.specs.Making.{State}
-use Rattle.rules.specs.Rules as rules
+use Rattle.rules.specs.Rules.Making.{State}
+use Rattle.rules.specs.Rules.Calls as rules
 use Rattle.cache.specs.Places.{cachedOf}
 use Rattle.audit.specs.declared.Figures.{Figures}
 

@@ -11,11 +11,11 @@ use native.Mathlib.Omega.{arith}
 use native.Mathlib.Decide.{decLe}
 use lib.ListN.{length}
 use Rattle.words.specs.Choice.{bit}
-use Rattle.rules.specs.Rules.{Outcome}
-use Rattle.rules.specs.Making.{State}
-use Rattle.rules.specs.Sound.{Sound}
-use Rattle.rules.proofs.Named.{chunks-few}
-use Rattle.rules.proofs.Decide.{sound-true, true-sound}
+use Rattle.rules.specs.Rules.Calls.{Outcome}
+use Rattle.rules.specs.Rules.Making.{State}
+use Rattle.rules.specs.Sound.Sound.{Sound}
+use Rattle.rules.proofs.Tiling.Named.{chunks-few}
+use Rattle.rules.proofs.Demands.Decide.{sound-true, true-sound}
 use Rattle.heap.specs.declared.record.Record.{Record}
 use Rattle.heap.specs.Seen.{base, seen}
 use Rattle.heap.specs.Answer.{soundAt}

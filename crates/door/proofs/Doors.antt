@@ -13,16 +13,16 @@ use lib.ListN.{length}
 use borrow.Author.Tests.{eqb-true}
 use Rattle.words.specs.Choice.{pick}
 use Rattle.words.specs.Links.{narrow}
-use Rattle.rules.specs.Rules.{Outcome, says}
-use Rattle.rules.specs.Making.{State, make, acceptedᵇ}
-use Rattle.rules.specs.Demands.{hand, back}
-use Rattle.rules.specs.Machine.{ask, give}
-use Rattle.rules.specs.Runs.{call}
-use Rattle.rules.specs.Sound.{Accepted}
-use Rattle.rules.proofs.Proved.{narrow-demands, narrow-making}
-use Rattle.rules.proofs.Editions.{accepted-true}
+use Rattle.rules.specs.Rules.Calls.{Outcome, says}
+use Rattle.rules.specs.Rules.Making.{State, make, acceptedᵇ}
+use Rattle.rules.specs.Demands.Meaning.{hand, back}
+use Rattle.rules.specs.Machine.Machine.{ask, give}
+use Rattle.rules.specs.Demands.TwoHeaps.{call}
+use Rattle.rules.specs.Sound.Sound.{Accepted}
+use Rattle.rules.proofs.Demands.Proved.{narrow-demands, narrow-making}
+use Rattle.rules.proofs.Demands.Editions.{accepted-true}
 use Rattle.heap.specs.declared.record.Record.{Record}
-use Rattle.rules.specs.Kind.{four}
+use Rattle.rules.specs.Demands.Kind.{four}
 use Rattle.heap.specs.Seen.{seen, base, FourPlaces}
 use Rattle.heap.proofs.Apart.{seen-same}
 use Rattle.map.specs.Calls.{written}

@@ -6,8 +6,8 @@ use lib.IntN.{pos}
 use lib.ListN.{length}
 use Rattle.words.specs.Choice.{pick}
 use Rattle.words.specs.Links.{narrow}
-use Rattle.rules.specs.Rules.{Outcome, says}
-use Rattle.rules.specs.Making.{State, make, acceptedᵇ}
+use Rattle.rules.specs.Rules.Calls.{Outcome, says}
+use Rattle.rules.specs.Rules.Making.{State, make, acceptedᵇ}
 use Rattle.heap.specs.declared.record.Record.{Record}
 use Rattle.heap.specs.declared.record.Mark.{Mark}
 use Rattle.heap.specs.declared.record.Mark.the-variants.{Unchanged, At}

@@ -14,8 +14,8 @@
 //     plain    the calls by value that the doors go to
 ghost use mathlib.Core.Path.{_≡_};
 ghost use Rattle.words.specs.Choice.{bit};
-ghost use Rattle.rules.specs.Demands.{hand, back};
-ghost use Rattle.rules.specs.Kind.{one, four};
+ghost use Rattle.rules.specs.Demands.Meaning.{hand, back};
+ghost use Rattle.rules.specs.Demands.Kind.{one, four};
 ghost use Rattle.heap.specs.Seen.{seen, base};
 ghost use Rattle.heap.specs.Mark.{markOf};
 ghost use Rattle.heap.specs.Answer.{soundAt};

@@ -2,9 +2,9 @@
 //
 // The doors do not branch, so that one walk proves them all; every decision is made here.
 ghost use mathlib.Core.Path.{_≡_};
-ghost use Rattle.rules.specs.Demands.{hand, back};
-ghost use Rattle.rules.specs.Making.{acceptedᵇ};
-ghost use Rattle.rules.specs.Kind.{one, four};
+ghost use Rattle.rules.specs.Demands.Meaning.{hand, back};
+ghost use Rattle.rules.specs.Rules.Making.{acceptedᵇ};
+ghost use Rattle.rules.specs.Demands.Kind.{one, four};
 ghost use Rattle.heap.specs.Seen.{seen, base};
 ghost use Rattle.door.specs.Reply.{replied, makeOver};
 use super::reply::Replied;

@@ -26,17 +26,17 @@ use Rattle.words.specs.Names.{links, offsets, payloads, heldName}
 use Rattle.words.specs.Sizes.{classOf, roundedOf, thresholdOf}
 use Rattle.words.specs.Tags.{at, lengthOf, rightOf, footerOf}
 use Rattle.words.specs.Links.{narrow}
-use Rattle.rules.specs.Ops.{Ops}
-use Rattle.rules.specs.Lists.{Mem}
-use Rattle.rules.specs.Steps.{portion, lengthAt, unlink, link, setLeft, clearLeft, markFree, markUsed, oneChunk, returnExcess, takeChunk, emptied, leftFree, rightFree, merge, merged, releaseChunk}
-use Rattle.rules.specs.Search.{Found, nowhere, lost}
-use Rattle.rules.specs.Search as rule
-use Rattle.rules.specs.Rules.{Figures, Outcome, says, byteOf, nameOf, one, never, choose, listed, counted, released, letGo, withoutCache, firstFit, took, fromMerged, fromList, fromCache, serve, handOut, live, settled, takeBack}
-use Rattle.rules.specs.Rules as rules
-use Rattle.rules.specs.Making.{State, make, fresh}
-use Rattle.rules.specs.Demands.{hand, back}
-use Rattle.rules.specs.Place.{usedAt, tile, usedWalk}
-use Rattle.rules.proofs.Place.{used-tile}
+use Rattle.rules.specs.Rules.Ops.{Ops}
+use Rattle.rules.specs.Rules.Lists.{Mem}
+use Rattle.rules.specs.Rules.Steps.{portion, lengthAt, unlink, link, setLeft, clearLeft, markFree, markUsed, oneChunk, returnExcess, takeChunk, emptied, leftFree, rightFree, merge, merged, releaseChunk}
+use Rattle.rules.specs.Rules.Search.{Found, nowhere, lost}
+use Rattle.rules.specs.Rules.Search as rule
+use Rattle.rules.specs.Rules.Calls.{Figures, Outcome, says, byteOf, nameOf, one, never, choose, listed, counted, released, letGo, withoutCache, firstFit, took, fromMerged, fromList, fromCache, serve, handOut, live, settled, takeBack}
+use Rattle.rules.specs.Rules.Calls as rules
+use Rattle.rules.specs.Rules.Making.{State, make, fresh}
+use Rattle.rules.specs.Demands.Meaning.{hand, back}
+use Rattle.rules.specs.Rules.Place.{usedAt, tile, usedWalk}
+use Rattle.rules.proofs.Tiling.Place.{used-tile}
 use Rattle.heap.specs.declared.record.Record.{Record}
 use Rattle.heap.specs.declared.kind.Kind.{Kind}
 use Rattle.heap.specs.declared.kind.Kind.the-variants.{One, Four}
@@ -50,12 +50,12 @@ use Rattle.heap.proofs.Joins.{emptied-seen}
 use Rattle.heap.specs.Answer.{outcome, soundAt, Served, Fitting, Missed}
 use Rattle.cache.specs.Places.{cachedOf, usedPlaces, leftOut, choiceOf}
 use Rattle.cache.proofs.Laws.{Packed, packed, length-cached, set-last, turned, oldest-cached, choose-hit, choose-miss, listed-cached}
-use Rattle.rules.proofs.Store.{Edition}
-use Rattle.rules.proofs.Decide.{sound-more}
-use Rattle.rules.proofs.Follow.{Picked, choose-picked, walkedFit}
+use Rattle.rules.proofs.Steps.Store.{Edition}
+use Rattle.rules.proofs.Demands.Decide.{sound-more}
+use Rattle.rules.proofs.Demands.Follow.{Picked, choose-picked, walkedFit}
 use Rattle.words.proofs.Laws.Links.{narrow-lawful}
-use Rattle.rules.proofs.Editions.{edition, narrow-fits}
-use Rattle.rules.proofs.Bounds.{FoundFits, walked-fitᵇ, found-fitsᵇ, never-lostᵇ, nowhere-shortᵇ, CachedFits, cached-fitsᵇ, cached-heldᵇ, ReleaseFits, release-fitsᵇ, LiveFits, live-fitsᵇ, FiguresFit, figures-fitᵇ}
+use Rattle.rules.proofs.Demands.Editions.{edition, narrow-fits}
+use Rattle.rules.proofs.Demands.Bounds.{FoundFits, walked-fitᵇ, found-fitsᵇ, never-lostᵇ, nowhere-shortᵇ, CachedFits, cached-fitsᵇ, cached-heldᵇ, ReleaseFits, release-fitsᵇ, LiveFits, live-fitsᵇ, FiguresFit, figures-fitᵇ}
 
 -- ---- MAKING
 

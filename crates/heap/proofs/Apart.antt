@@ -9,8 +9,8 @@ use Rattle.words.specs.declared.names.Link.{Link}
 use Rattle.words.specs.Numbers.{numbers}
 use Rattle.words.proofs.Laws.Numbers.{length-numbers}
 use Rattle.cache.proofs.Laws.{cached-back}
-use Rattle.rules.specs.Rules.{Figures, Outcome}
-use Rattle.rules.specs.Making.{State}
+use Rattle.rules.specs.Rules.Calls.{Figures, Outcome}
+use Rattle.rules.specs.Rules.Making.{State}
 use Rattle.heap.specs.declared.record.Record.{Record}
 use Rattle.heap.specs.declared.calls.Answer.{Answer}
 use Rattle.heap.specs.declared.calls.Answer.the-variants.{Done, ZeroSize, TooLarge, NoFit, NotLive, Damaged, BadLength, NeverFits}

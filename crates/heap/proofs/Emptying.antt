@@ -13,11 +13,11 @@ use Rattle.words.proofs.Laws.Numbers.{length-numbers}
 use Rattle.words.specs.Tags.{at, lengthOf}
 use Rattle.cache.specs.Places.{cachedOf, usedPlaces, leftOut}
 use Rattle.cache.proofs.Laws.{length-cached, used-least, left-out}
-use Rattle.rules.specs.Rules.{Figures, letGo, withoutCache}
-use Rattle.rules.specs.Steps.{releaseChunk}
-use Rattle.rules.specs.Making.{State}
-use Rattle.rules.proofs.Bounds.{figures-fitᵇ}
-use Rattle.rules.proofs.LetGo.{let-go-soundᵇ, let-go-figuresᵇ, without-cache-stepᵇ, without-cache-done}
+use Rattle.rules.specs.Rules.Calls.{Figures, letGo, withoutCache}
+use Rattle.rules.specs.Rules.Steps.{releaseChunk}
+use Rattle.rules.specs.Rules.Making.{State}
+use Rattle.rules.proofs.Demands.Bounds.{figures-fitᵇ}
+use Rattle.rules.proofs.Demands.LetGo.{let-go-soundᵇ, let-go-figuresᵇ, without-cache-stepᵇ, without-cache-done}
 use Rattle.steps.specs.Undone.{Room, Undoes}
 use Rattle.steps.proofs.Undone.{undo-none, undo-on, undo-within}
 use Rattle.heap.specs.declared.record.Record.{Record}

@@ -17,10 +17,10 @@ use Rattle.words.specs.Links.{narrow, prev, next, linkAt, setLinkAt, nodeLink, 
 use Rattle.words.specs.Numbers.{numbers}
 use Rattle.words.proofs.Laws.Numbers.{numbers-at, numbers-set}
 use Rattle.words.specs.Sizes.{classOf, startOf}
-use Rattle.rules.specs.Steps.{portion, unlink, link, setLeft, clearLeft, markFree, markUsed, returnExcess, takeChunk, leftFree, rightFree, merge, merged, releaseChunk, cleared, emptied}
-use Rattle.rules.specs.Search.{searchAll}
-use Rattle.rules.proofs.Follow.{walkedFit}
-use Rattle.rules.specs.Making.{State}
+use Rattle.rules.specs.Rules.Steps.{portion, unlink, link, setLeft, clearLeft, markFree, markUsed, returnExcess, takeChunk, leftFree, rightFree, merge, merged, releaseChunk, cleared, emptied}
+use Rattle.rules.specs.Rules.Search.{searchAll}
+use Rattle.rules.proofs.Demands.Follow.{walkedFit}
+use Rattle.rules.specs.Rules.Making.{State}
 use Rattle.heap.specs.declared.record.Record.{Record}
 use Rattle.heap.specs.Seen.{seen, base, withPrevs, withNexts, stored}
 use Rattle.heap.specs.Released.{freeListed}

@@ -11,13 +11,13 @@ use lib.ListN.{length, getD}
 use Rattle.words.specs.Numbers.{numbers}
 use Rattle.words.proofs.Laws.Numbers.{numbers-at}
 use Rattle.cache.proofs.Laws.{none-cached}
-use Rattle.rules.specs.Search.{Found, nowhere, lost}
-use Rattle.rules.specs.Search as rule
-use Rattle.rules.specs.Rules.{Outcome, says, withoutCache, firstFit, took, fromMerged}
-use Rattle.rules.specs.Making.{State}
-use Rattle.rules.proofs.Follow.{walkedFit}
-use Rattle.rules.proofs.Bounds.{walked-fitᵇ, never-lostᵇ, nowhere-shortᵇ, figures-fitᵇ}
-use Rattle.rules.proofs.LetGo.{without-cache-soundᵇ, without-cache-done}
+use Rattle.rules.specs.Rules.Search.{Found, nowhere, lost}
+use Rattle.rules.specs.Rules.Search as rule
+use Rattle.rules.specs.Rules.Calls.{Outcome, says, withoutCache, firstFit, took, fromMerged}
+use Rattle.rules.specs.Rules.Making.{State}
+use Rattle.rules.proofs.Demands.Follow.{walkedFit}
+use Rattle.rules.proofs.Demands.Bounds.{walked-fitᵇ, never-lostᵇ, nowhere-shortᵇ, figures-fitᵇ}
+use Rattle.rules.proofs.Demands.LetGo.{without-cache-soundᵇ, without-cache-done}
 use Rattle.steps.specs.Undone.{putBack}
 use Rattle.steps.proofs.Undone.{put-back-all, undo-whole}
 use Rattle.heap.specs.declared.record.Record.{Record}

@@ -13,8 +13,8 @@ use Rattle.words.specs.Links.{narrow, prev, next, linkAt, setChunkLink}
 use Rattle.words.specs.Sizes.{classOf}
 use Rattle.words.specs.Tags.{rightOf, footerOf, leftFreed, changed}
 use Rattle.words.proofs.Laws.Sizes.{class-below}
-use Rattle.rules.specs.Making.{State}
-use Rattle.rules.specs.Steps.{unlink, link, markFree, clearLeft, merge, releaseChunk}
+use Rattle.rules.specs.Rules.Making.{State}
+use Rattle.rules.specs.Rules.Steps.{unlink, link, markFree, clearLeft, merge, releaseChunk}
 use Rattle.steps.specs.declared.merge.Merged.{Merged}
 use Rattle.steps.specs.Chunk.{freed, Releasable}
 use Rattle.steps.specs.Merged.{mergedIn}

@@ -3,11 +3,11 @@
 use mathlib.Core.Path.{_≡_}
 use mathlib.Core.Bool.{Bool, true}
 use Prim.Native.Nat.{ℕ, _≤_, _<_, _%_}
-use Rattle.rules.specs.Rules.{Outcome, says, firstFit}
-use Rattle.rules.specs.Search.{at, nowhere}
-use Rattle.rules.specs.Making.{State}
-use Rattle.rules.specs.Machine as rule
-use Rattle.rules.specs.Test.{soundᵇ}
+use Rattle.rules.specs.Rules.Calls.{Outcome, says, firstFit}
+use Rattle.rules.specs.Rules.Search.{at, nowhere}
+use Rattle.rules.specs.Rules.Making.{State}
+use Rattle.rules.specs.Machine.Machine as rule
+use Rattle.rules.specs.Sound.Test.{soundᵇ}
 use Rattle.heap.specs.declared.calls.Answer.{Answer}
 use Rattle.heap.specs.declared.calls.Answer.the-variants.{Done, ZeroSize, TooLarge, NoFit, NotLive, Damaged, BadLength, NeverFits}
 use Rattle.heap.specs.Seen.{base}

@@ -6,14 +6,15 @@ use Prim.Native.Nat.{ℕ, _-_, _*_, _<_}
 use lib.ListN.{length, set}
 use Rattle.words.specs.Links.{narrow}
 use Rattle.words.specs.Sizes.{thresholdOf}
-use Rattle.rules.specs.Making.{make}
-use Rattle.rules.specs.Rules.{handOut, takeBack, live}
-use Rattle.rules.specs.Sound.{Shows, Sound}
-use Rattle.rules.specs.Demands.{Holds}
-use Rattle.rules.specs.Promises.{Unfit}
-use Rattle.rules.specs.Machine.{Model, Request, ask, give}
-use Rattle.rules.specs.Machine as rule
-use Rattle.rules.specs.TwoRuns.{Event, asks, writes}
+use Rattle.rules.specs.Rules.Making.{make}
+use Rattle.rules.specs.Rules.Calls.{handOut, takeBack, live}
+use Rattle.rules.specs.Sound.Sound.{Shows, Sound}
+use Rattle.rules.specs.Demands.Meaning.{Holds}
+use Rattle.rules.specs.Demands.Promises.{Unfit}
+use Rattle.rules.specs.Sound.Model.{Model}
+use Rattle.rules.specs.Machine.Machine.{Request, ask, give}
+use Rattle.rules.specs.Machine.Machine as rule
+use Rattle.rules.specs.Demands.Events.{Event, asks, writes}
 use Rattle.heap.specs.declared.record.Record.{Record}
 use Rattle.heap.specs.declared.calls.Out.{Out}
 use Rattle.heap.specs.Seen.{seen, base}

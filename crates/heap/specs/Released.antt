@@ -6,9 +6,9 @@ use Prim.Native.Nat.{ℕ, _+_}
 use Rattle.words.specs.Choice.{pick}
 use Rattle.words.specs.Sizes.{classOf}
 use Rattle.words.specs.Tags.{rightOf}
-use Rattle.rules.specs.Steps.{unlink, link, clearLeft, markFree}
-use Rattle.rules.specs.Rules.{letGo}
-use Rattle.rules.specs.Making.{State}
+use Rattle.rules.specs.Rules.Steps.{unlink, link, clearLeft, markFree}
+use Rattle.rules.specs.Rules.Calls.{letGo}
+use Rattle.rules.specs.Rules.Making.{State}
 use Rattle.heap.specs.Seen.{base}
 
 -- a node leaves its list, where the test holds

@@ -9,10 +9,10 @@ use Rattle.words.specs.Choice.{pick}
 use Rattle.words.specs.Links.{narrow}
 use Rattle.words.specs.Numbers.{numbers}
 use Rattle.cache.specs.Places.{cachedOf}
-use Rattle.rules.specs.Ops.{Ops}
-use Rattle.rules.specs.State.{ops}
-use Rattle.rules.specs.Rules.{Figures}
-use Rattle.rules.specs.Making.{State}
+use Rattle.rules.specs.Rules.Ops.{Ops}
+use Rattle.rules.specs.Rules.State.{ops}
+use Rattle.rules.specs.Rules.Calls.{Figures}
+use Rattle.rules.specs.Rules.Making.{State}
 use Rattle.heap.specs.declared.record.Record.{Record}
 
 -- the operations of narrow links, which this heap is the edition of

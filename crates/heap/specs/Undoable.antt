@@ -3,7 +3,7 @@ use mathlib.Core.Path.{_≡_}
 use mathlib.Core.List.{List}
 use Prim.Native.Nat.{ℕ}
 use Rattle.steps.specs.Undone.{Undoes}
-use Rattle.rules.specs.Making.{State}
+use Rattle.rules.specs.Rules.Making.{State}
 use Rattle.heap.specs.Seen.{seen}
 use Rattle.heap.specs.declared.undo.Noted.{Noted}
 

@@ -3,7 +3,7 @@
 // heap.rs reaches a sentinel through a pointer, like any chunk; here a store has two halves, one of which does nothing.
 ghost use mathlib.Core.Path.{_≡_};
 ghost use Prim.Native.Nat.{_≤_, _<_};
-ghost use Rattle.rules.specs.Steps.{unlink, link};
+ghost use Rattle.rules.specs.Rules.Steps.{unlink, link};
 ghost use Rattle.heap.specs.Seen.{seen, base};
 use super::record::Record;
 use words::Link;

@@ -1,7 +1,7 @@
 // Releasing a chunk: it merges with its free neighbours, left before right, and goes to the head of its class list.
 ghost use mathlib.Core.Path.{_≡_};
 ghost use Prim.Native.Nat.{_+_, _-_, _≤_, _<_};
-ghost use Rattle.rules.specs.Steps.{merge, releaseChunk};
+ghost use Rattle.rules.specs.Rules.Steps.{merge, releaseChunk};
 ghost use Rattle.heap.specs.Seen.{seen, base};
 ghost use Rattle.heap.specs.Released.{freeListed};
 ghost use Rattle.steps.specs.Chunk.{Releasable};

@@ -1,7 +1,7 @@
 // Taking a listed chunk: it is unlinked and marked used, and the excess goes back to the lists.
 ghost use mathlib.Core.Path.{_≡_};
 ghost use Prim.Native.Nat.{_+_, _-_, _/_, _≤_, _<_, _^_};
-ghost use Rattle.rules.specs.Steps.{portion, returnExcess, takeChunk};
+ghost use Rattle.rules.specs.Rules.Steps.{portion, returnExcess, takeChunk};
 ghost use Rattle.heap.specs.Seen.{seen, base};
 use super::record::Record;
 use words::Link;

@@ -11,8 +11,8 @@ use lib.Dec.{leb}
 use lib.ListN.{length, drop}
 use borrow.Author.Tests.{le-leb, lt-leb, leb-true}
 use Rattle.words.specs.Choice.{pick}
-use Rattle.rules.specs.Rules.{Outcome, says}
-use Rattle.rules.specs.Making.{State}
+use Rattle.rules.specs.Rules.Calls.{Outcome, says}
+use Rattle.rules.specs.Rules.Making.{State}
 use Rattle.heap.specs.Answer.{soundAt}
 use Rattle.map.specs.Rows.{linesOf}
 use Rattle.map.specs.Calls.{over, laid, rowsOf, written}

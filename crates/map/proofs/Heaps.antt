@@ -14,17 +14,17 @@ use lib.Dec.{eqb, leb}
 use lib.ListN.{length}
 use borrow.Author.Tests.{eqb-true, leb-true, le-leb, lt-leb}
 use Rattle.words.specs.Choice.{pick, bit}
-use Rattle.rules.specs.Chunks.{Chunk, total, Legal, Calm}
-use Rattle.rules.specs.Ops.{Ops}
-use Rattle.rules.specs.Lists.{Mem}
-use Rattle.rules.specs.Place.{usedAt, tile}
-use Rattle.rules.specs.Rules.{Figures, byteOf, nameOf, listed}
-use Rattle.rules.specs.Machine.{Model}
-use Rattle.rules.specs.Sound.{Accepted, CacheRight, Shows}
-use Rattle.rules.specs.Test.{candidate}
-use Rattle.rules.proofs.Store.{Edition}
-use Rattle.rules.proofs.Follow.{listed-true, listed-false}
-use Rattle.rules.proofs.Decide.{shows-candidate, layout-unique}
+use Rattle.rules.specs.Rules.Chunks.{Chunk, total, Legal, Calm}
+use Rattle.rules.specs.Rules.Ops.{Ops}
+use Rattle.rules.specs.Rules.Lists.{Mem}
+use Rattle.rules.specs.Rules.Place.{usedAt, tile}
+use Rattle.rules.specs.Rules.Calls.{Figures, byteOf, nameOf, listed}
+use Rattle.rules.specs.Sound.Model.{Model}
+use Rattle.rules.specs.Sound.Sound.{Accepted, CacheRight, Shows}
+use Rattle.rules.specs.Sound.Test.{candidate}
+use Rattle.rules.proofs.Steps.Store.{Edition}
+use Rattle.rules.proofs.Demands.Follow.{listed-true, listed-false}
+use Rattle.rules.proofs.Demands.Decide.{shows-candidate, layout-unique}
 use Rattle.map.specs.declared.rows.Row.{Row}
 use Rattle.map.specs.Rows.{freeKind, liveKind, cachedKind}
 use Rattle.map.specs.Layout.{mapOf, chunksOf, cachedIn, InLine, LegalMap}

@@ -7,7 +7,7 @@ use mathlib.Core.List.{List, [], _∷_}
 use Prim.Native.Nat.{ℕ, suc, _+_, _*_}
 use native.Mathlib.Omega.{arith}
 use lib.ListN.{length, length-append}
-use Rattle.rules.specs.Chunks.{Chunk}
+use Rattle.rules.specs.Rules.Chunks.{Chunk}
 use Rattle.frame.proofs.Laws.Answer.{length-answer}
 use Rattle.map.specs.declared.rows.Row.{Row}
 use Rattle.map.specs.Rows.{lineOf, linesOf, wordsOf}

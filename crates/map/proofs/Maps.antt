@@ -24,15 +24,15 @@ use mathlib.Core.List.{List, [], _++_}
 use Prim.Native.Nat.{ℕ, _*_, _^_, _≤_, _<_}
 use native.Mathlib.Omega.{arith}
 use lib.ListN.{length, take, drop}
-use Rattle.rules.specs.Chunks.{Chunk}
-use Rattle.rules.specs.Lists.{Mem}
-use Rattle.rules.specs.Rules.{Outcome, says}
-use Rattle.rules.specs.Making.{State}
-use Rattle.rules.specs.Machine.{Model}
-use Rattle.rules.specs.Sound.{Shows, Sound}
-use Rattle.rules.specs.Claims.{Iff}
-use Rattle.rules.proofs.Decide.{sound-true, true-sound}
-use Rattle.rules.proofs.Proved.{narrow-edition}
+use Rattle.rules.specs.Rules.Chunks.{Chunk}
+use Rattle.rules.specs.Rules.Lists.{Mem}
+use Rattle.rules.specs.Rules.Calls.{Outcome, says}
+use Rattle.rules.specs.Rules.Making.{State}
+use Rattle.rules.specs.Sound.Model.{Model}
+use Rattle.rules.specs.Sound.Sound.{Shows, Sound}
+use Rattle.rules.specs.Demands.Demands.{Iff}
+use Rattle.rules.proofs.Demands.Decide.{sound-true, true-sound}
+use Rattle.rules.proofs.Demands.Proved.{narrow-edition}
 use Rattle.heap.specs.Seen.{base}
 use Rattle.heap.specs.Answer.{soundAt}
 use Rattle.map.specs.declared.rows.Row.{Row}

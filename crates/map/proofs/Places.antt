@@ -12,10 +12,10 @@ use Prim.Native.Nat.{ℕ, _+_, _-_, _*_, _/_, _%_, _≤_, _<_}
 use native.Mathlib.Omega.{arith}
 use lib.Dec.{eqb}
 use lib.ListN.{length}
-use Rattle.rules.specs.Chunks.{total, Legal, Calm, usedHead}
-use Rattle.rules.specs.Test.{either}
-use Rattle.rules.specs.Test.{both}
-use Rattle.rules.proofs.Calls.{total-8}
+use Rattle.rules.specs.Rules.Chunks.{total, Legal, Calm, usedHead}
+use Rattle.rules.specs.Sound.Test.{either}
+use Rattle.rules.specs.Sound.Test.{both}
+use Rattle.rules.proofs.Steps.Calls.{total-8}
 use Rattle.map.specs.declared.rows.Row.{Row}
 use Rattle.map.specs.declared.rows.Place.{Place}
 use Rattle.map.specs.Rows.{freeKind}

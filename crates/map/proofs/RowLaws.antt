@@ -14,7 +14,7 @@ use lib.ListN.{length, getD, take, drop, take-append-drop, length-take, length-d
 use lib.Seq.{take-add, drop-cons, drop-drop, length-take-le}
 use borrow.Author.Tests.{eq-eqb, ne-eqb, eqb-true}
 use Rattle.words.specs.Choice.{pick}
-use Rattle.rules.specs.Test.{both}
+use Rattle.rules.specs.Sound.Test.{both}
 use Rattle.frame.specs.declared.hex.Field.the-variants.{Number, NoNumber}
 use Rattle.frame.specs.Hex.{allDigits, valueOf, digitsOf}
 use Rattle.frame.specs.Answer.{answerBytes}

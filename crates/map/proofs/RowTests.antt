@@ -12,7 +12,7 @@ use native.Mathlib.Omega.{arith}
 use lib.Dec.{eqb, leb, ltb}
 use borrow.Author.Tests.{eq-eqb, ne-eqb, le-leb, lt-leb, le-ltb, lt-ltb, eqb-true, leb-true, leb-false}
 use Rattle.words.specs.Choice.{bit}
-use Rattle.rules.specs.Test.{both}
+use Rattle.rules.specs.Sound.Test.{both}
 use Rattle.map.specs.declared.rows.Row.{Row}
 use Rattle.map.specs.declared.rows.Place.{Place}
 use Rattle.map.specs.Rows.{freeKind, cachedKind}

@@ -9,7 +9,7 @@ use Prim.Native.Nat.{ℕ, zero, suc}
 use lib.Dec.{leb}
 use lib.ListN.{length}
 use Rattle.words.specs.Choice.{pick}
-use Rattle.rules.specs.Rules.{Outcome, says}
+use Rattle.rules.specs.Rules.Calls.{Outcome, says}
 use Rattle.heap.specs.declared.record.Record.{Record}
 use Rattle.heap.specs.Seen.{seen}
 use Rattle.heap.specs.Answer.{soundAt}

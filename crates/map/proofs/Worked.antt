@@ -9,19 +9,19 @@ use Rattle.words.specs.Sizes.{classOf}
 use Rattle.words.specs.Links.{setLinkAt}
 use Rattle.frame.specs.Hex.{digitOf, byteOf, digitsOf}
 use Rattle.frame.specs.Answer.{answerBytes}
-use Rattle.rules.specs.Steps.{unlink, link, setLeft, clearLeft, markFree, markUsed, oneChunk, returnExcess, takeChunk, leftFree, rightFree, merge, merged}
-use Rattle.rules.specs.Steps.{releaseChunk, emptied, cleared}
-use Rattle.rules.specs.Search.{find, inTurn}
-use Rattle.rules.specs.Place.{usedAt, tile}
-use Rattle.rules.specs.Lists.{walk}
-use Rattle.rules.specs.Exact.{frees}
-use Rattle.rules.specs.Rules.{says, choose, listed, emptyCache, firstFit, fromMerged, fromList, fromCache, serve, handOut, live, settled, takeBack}
-use Rattle.rules.specs.Making.{State, make}
-use Rattle.rules.specs.Machine.{ask, give}
-use Rattle.rules.specs.Test.{legalᵇ, calmᵇ, tagsᵇ, segᵇ, belowᵇ, everyᵇ, slotᵇ, exactᵇ, distinctᵇ, underᵇ, cacheᵇ, figuresᵇ, showsᵇ, candidate, soundᵇ}
-use Rattle.rules.specs.Runs.{call}
-use Rattle.rules.specs.Kind.{one}
-use Rattle.rules.specs.Table.{made, after}
+use Rattle.rules.specs.Rules.Steps.{unlink, link, setLeft, clearLeft, markFree, markUsed, oneChunk, returnExcess, takeChunk, leftFree, rightFree, merge, merged}
+use Rattle.rules.specs.Rules.Steps.{releaseChunk, emptied, cleared}
+use Rattle.rules.specs.Rules.Search.{find, inTurn}
+use Rattle.rules.specs.Rules.Place.{usedAt, tile}
+use Rattle.rules.specs.Rules.Lists.{walk}
+use Rattle.rules.specs.Sound.Exact.{frees}
+use Rattle.rules.specs.Rules.Calls.{says, choose, listed, emptyCache, firstFit, fromMerged, fromList, fromCache, serve, handOut, live, settled, takeBack}
+use Rattle.rules.specs.Rules.Making.{State, make}
+use Rattle.rules.specs.Machine.Machine.{ask, give}
+use Rattle.rules.specs.Sound.Test.{legalᵇ, calmᵇ, tagsᵇ, segᵇ, belowᵇ, everyᵇ, slotᵇ, exactᵇ, distinctᵇ, underᵇ, cacheᵇ, figuresᵇ, showsᵇ, candidate, soundᵇ}
+use Rattle.rules.specs.Demands.TwoHeaps.{call}
+use Rattle.rules.specs.Demands.Kind.{one}
+use Rattle.rules.specs.Demands.Table.{made, after}
 use Rattle.map.specs.Rows.{row, linesOf, wordsOf}
 use Rattle.map.specs.Layout.{mapOf}
 use Rattle.map.specs.Reading.{rowIn, standsᵇ, followsᵇ, Read, rows, bad, lineRead, readFrom, readAll}

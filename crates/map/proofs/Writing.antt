@@ -18,12 +18,12 @@ use Rattle.words.specs.Tags.{at, lengthOf, freeᵇ}
 use Rattle.words.specs.Numbers.{numbers}
 use Rattle.cache.specs.Places.{cachedOf}
 use Rattle.cache.proofs.Laws.{listed-cached}
-use Rattle.rules.specs.Chunks.{Chunk, total}
-use Rattle.rules.specs.Rules.{says, listed}
-use Rattle.rules.specs.Place.{tile}
-use Rattle.rules.specs.Test.{candidate}
-use Rattle.rules.specs.Making.{State}
-use Rattle.rules.proofs.Decide.{sound-true, shows-candidate}
+use Rattle.rules.specs.Rules.Chunks.{Chunk, total}
+use Rattle.rules.specs.Rules.Calls.{says, listed}
+use Rattle.rules.specs.Rules.Place.{tile}
+use Rattle.rules.specs.Sound.Test.{candidate}
+use Rattle.rules.specs.Rules.Making.{State}
+use Rattle.rules.proofs.Demands.Decide.{sound-true, shows-candidate}
 use Rattle.heap.specs.declared.record.Record.{Record}
 use Rattle.heap.specs.Seen.{seen}
 use Rattle.heap.specs.Answer.{soundAt}

@@ -1,7 +1,7 @@
 -- THE ANSWER NUMBERS of the map's calls: 0 done, with the number of chunks; 5 damaged; 6 room too short; 7 a bad line, with its number.
 use mathlib.Core.List.{List}
 use Prim.Native.Nat.{ℕ}
-use Rattle.rules.specs.Rules.{Outcome, says}
+use Rattle.rules.specs.Rules.Calls.{Outcome, says}
 use Rattle.map.specs.declared.rows.Answer.{Answer}
 use Rattle.map.specs.declared.rows.Answer.the-variants.{Done, Damaged, NoRoom, BadLine}
 

@@ -4,9 +4,9 @@ use Prim.Native.Nat.{ℕ}
 use lib.Dec.{leb}
 use lib.ListN.{length, drop}
 use Rattle.words.specs.Choice.{pick}
-use Rattle.rules.specs.Rules.{Outcome, says}
-use Rattle.rules.specs.Place.{tile}
-use Rattle.rules.specs.Making.{State}
+use Rattle.rules.specs.Rules.Calls.{Outcome, says}
+use Rattle.rules.specs.Rules.Place.{tile}
+use Rattle.rules.specs.Rules.Making.{State}
 use Rattle.heap.specs.Seen.{base}
 use Rattle.heap.specs.Answer.{soundAt}
 use Rattle.map.specs.declared.rows.Row.{Row}

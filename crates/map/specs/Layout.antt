@@ -5,9 +5,9 @@ use mathlib.Core.List.{List, [], _∷_}
 use Prim.Native.Nat.{ℕ, _+_, _-_, _*_, _≤_}
 use lib.Dec.{eqb}
 use Rattle.words.specs.Choice.{pick, bit}
-use Rattle.rules.specs.Chunks.{Chunk, total, Legal, Calm}
-use Rattle.rules.specs.Rules.{nameOf, listed}
-use Rattle.rules.specs.Sound.{Accepted}
+use Rattle.rules.specs.Rules.Chunks.{Chunk, total, Legal, Calm}
+use Rattle.rules.specs.Rules.Calls.{nameOf, listed}
+use Rattle.rules.specs.Sound.Sound.{Accepted}
 use Rattle.map.specs.declared.rows.Row.{Row}
 use Rattle.map.specs.Rows.{row, freeKind, liveKind, cachedKind}
 

@@ -5,7 +5,7 @@ use Prim.Native.Nat.{ℕ, zero, suc, _+_, _-_, _*_, _%_}
 use lib.Dec.{eqb, leb}
 use lib.ListN.{length, take, drop, getD}
 use Rattle.words.specs.Choice.{pick, bit}
-use Rattle.rules.specs.Test.{both}
+use Rattle.rules.specs.Sound.Test.{both}
 use Rattle.frame.specs.Hex.{allDigits, valueOf}
 use Rattle.map.specs.declared.rows.Row.{Row}
 use Rattle.map.specs.declared.rows.Place.{Place}

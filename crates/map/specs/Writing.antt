@@ -5,8 +5,8 @@ use Prim.Native.Nat.{ℕ, _*_, _/_, _≤_}
 use lib.ListN.{length}
 use Rattle.words.specs.Choice.{pick}
 use Rattle.words.specs.Tags.{at, lengthOf, freeᵇ}
-use Rattle.rules.specs.Chunks.{Chunk, total}
-use Rattle.rules.specs.Place.{tile}
+use Rattle.rules.specs.Rules.Chunks.{Chunk, total}
+use Rattle.rules.specs.Rules.Place.{tile}
 
 -- the chunks of the words, as the headers give them
 unfoldable pub chunksIn : List ℕ → List Chunk

@@ -9,7 +9,7 @@ use lib.Dec.{ltb}
 use lib.ListN.{set}
 use Rattle.words.specs.Names.{links, heldName}
 use Rattle.words.specs.Tags.{at, headerOf, lengthOf, freeᵇ, leftFreeᵇ, rightOf, footerOf}
-use Rattle.rules.specs.Steps.{portion}
+use Rattle.rules.specs.Rules.Steps.{portion}
 use Rattle.steps.specs.Chunk.{freedIn, freed, leftFreeIn, rightFreeIn, Releasable}
 use Rattle.steps.specs.Merged.{mergedWith, mergedIn, plainBy}
 

@@ -9,7 +9,7 @@ use native.Mathlib.Omega.{arith}
 use borrow.Author.Tests.{eq-eqb, ne-eqb, le-leb, lt-leb}
 use Rattle.words.specs.Choice.{pick}
 use Rattle.words.specs.Tags.{lengthOf, freeᵇ}
-use Rattle.rules.specs.Place.{usedWalk}
+use Rattle.rules.specs.Rules.Place.{usedWalk}
 
 -- without fuel the walk ends
 pub used-out : (f : ℕ → ℕ) (fuel e b : ℕ) → fuel ≤ 0 → usedWalk f fuel e b ≡ 0

@@ -14,8 +14,8 @@ use borrow.Author.Tests.{eq-eqb, ne-eqb, le-leb, lt-leb}
 use Rattle.words.specs.Choice.{pick}
 use Rattle.words.specs.Links.{narrow, next, nodeLink}
 use Rattle.words.specs.Tags.{at, lengthOf}
-use Rattle.rules.specs.Search.{Found, nowhere, lost, findWalk, orElse, searchAll}
-use Rattle.rules.specs.Search as rule
+use Rattle.rules.specs.Rules.Search.{Found, nowhere, lost, findWalk, orElse, searchAll}
+use Rattle.rules.specs.Rules.Search as rule
 use Rattle.steps.specs.Found.{walkIn}
 
 -- the rest of a walk along list k, at the node x, after c were compared

@@ -3,8 +3,8 @@ use mathlib.Core.List.{List}
 use Prim.Native.Nat.{ℕ, _-_}
 use Rattle.words.specs.Links.{narrow, next, nodeLink}
 use Rattle.words.specs.Tags.{at, lengthOf}
-use Rattle.rules.specs.Search.{findWalk}
-use Rattle.rules.specs.Search as rule
+use Rattle.rules.specs.Rules.Search.{findWalk}
+use Rattle.rules.specs.Rules.Search as rule
 use Rattle.steps.specs.declared.search.Found.{Found}
 use Rattle.steps.specs.declared.search.Found.the-variants.{At, Nothing, Lost}
 

@@ -2,7 +2,7 @@
 ghost use mathlib.Core.Path.{_≡_};
 ghost use lib.ListN.{length};
 ghost use Rattle.words.specs.Tags.{at};
-ghost use Rattle.rules.specs.Place.{usedWalk};
+ghost use Rattle.rules.specs.Rules.Place.{usedWalk};
 use words::WordIndex;
 
 // The length of the used chunk whose header stands b bytes from the heap's start, 0 where none does: a walk of the tiling.

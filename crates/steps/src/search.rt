@@ -5,7 +5,7 @@ ghost use mathlib.Core.Path.{_≡_};
 ghost use Prim.Native.Nat.{_-_, _/_, _≤_, _<_};
 ghost use lib.ListN.{length};
 ghost use Rattle.words.specs.Numbers.{numbers};
-ghost use Rattle.rules.specs.Search.{searchAll};
+ghost use Rattle.rules.specs.Rules.Search.{searchAll};
 ghost use Rattle.words.specs.Sizes.{startOf};
 ghost use Rattle.steps.specs.Found.{told, walkIn};
 use words::Link;

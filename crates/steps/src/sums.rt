@@ -3,7 +3,7 @@ ghost use mathlib.Core.Path.{_≡_};
 ghost use Prim.Native.Nat.{_-_, max};
 ghost use lib.Dec.{ltb};
 ghost use Rattle.words.specs.Choice.{pick};
-ghost use Rattle.rules.specs.Steps.{portion};
+ghost use Rattle.rules.specs.Rules.Steps.{portion};
 
 // The least excess that becomes a chunk of its own, under heap.rs's name and number. Lengths are multiples of 8, so it is 16 in fact.
 pub const FREE_CHUNK_MIN_SIZE: u32 = 12;

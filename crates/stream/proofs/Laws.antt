@@ -25,7 +25,7 @@ use Rattle.feed.specs.Feeding.{standing, stands, steps, lastLine}
 use Rattle.feed.specs.Trace.{traceOf}
 use Rattle.feed.proofs.Laws.{onLine, steps-none, all-taken}
 use Rattle.feed.proofs.Whole.{steps-after, allAnswers, whole-from}
-use Rattle.rules.specs.Making.{empty}
+use Rattle.rules.specs.Rules.Making.{empty}
 use Rattle.stream.specs.declared.step.Stream.{Stream}
 use Rattle.stream.specs.Stepping.{ended, fails, pieceOf, Takes, Next, Writes}
 use Rattle.stream.specs.Ran.{most, atFirst, Ran, Going, Answered}

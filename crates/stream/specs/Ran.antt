@@ -5,7 +5,7 @@ use mathlib.Core.Bool.{Bool, true, false}
 use mathlib.Core.List.{List, []}
 use Prim.Native.Nat.{ℕ, _+_, _*_, _≤_}
 use lib.ListN.{length}
-use Rattle.rules.specs.Making.{empty}
+use Rattle.rules.specs.Rules.Making.{empty}
 use Rattle.feed.specs.Feeding.{Stand, standing, steps}
 use Rattle.feed.specs.Trace.{traceOf}
 use Rattle.stream.specs.declared.step.Stream.{Stream}

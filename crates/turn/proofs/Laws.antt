@@ -19,11 +19,11 @@ use borrow.Rule.Slice.PartMut.{midOf, postOf, putMid, put-same}
 use borrow.Author.Tests.{le-leb, lt-leb, leb-true, leb-false, eq-eqb, ne-eqb}
 use Rattle.words.specs.Choice.{pick}
 use Rattle.words.specs.Links.{narrow}
-use Rattle.rules.specs.Rules.{Outcome, says}
-use Rattle.rules.specs.Steps.{oneChunk}
-use Rattle.rules.specs.State.{ops}
-use Rattle.rules.specs.Making.{State, make, acceptedᵇ, fresh, empty}
-use Rattle.rules.specs.Demands.{hand, back}
+use Rattle.rules.specs.Rules.Calls.{Outcome, says}
+use Rattle.rules.specs.Rules.Steps.{oneChunk}
+use Rattle.rules.specs.Rules.State.{ops}
+use Rattle.rules.specs.Rules.Making.{State, make, acceptedᵇ, fresh, empty}
+use Rattle.rules.specs.Demands.Meaning.{hand, back}
 use Rattle.heap.specs.declared.record.Record.{Record}
 use Rattle.heap.specs.declared.calls.Answer.{Answer}
 use Rattle.heap.specs.declared.calls.Out.{Out}

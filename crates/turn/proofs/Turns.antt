@@ -13,14 +13,14 @@ use lib.ListN.{length, take, drop, take-append-drop}
 use borrow.Author.Tests.{eqb-false}
 use Rattle.words.specs.Choice.{pick}
 use Rattle.words.specs.Links.{narrow}
-use Rattle.rules.specs.Rules.{Outcome, says}
-use Rattle.rules.specs.Making.{State, make}
-use Rattle.rules.specs.Demands.{hand, back}
-use Rattle.rules.specs.Machine.{ask, give}
-use Rattle.rules.specs.Runs.{call}
-use Rattle.rules.proofs.Proved.{narrow-demands, narrow-making}
+use Rattle.rules.specs.Rules.Calls.{Outcome, says}
+use Rattle.rules.specs.Rules.Making.{State, make}
+use Rattle.rules.specs.Demands.Meaning.{hand, back}
+use Rattle.rules.specs.Machine.Machine.{ask, give}
+use Rattle.rules.specs.Demands.TwoHeaps.{call}
+use Rattle.rules.proofs.Demands.Proved.{narrow-demands, narrow-making}
 use Rattle.heap.specs.declared.record.Record.{Record}
-use Rattle.rules.specs.Kind.{four}
+use Rattle.rules.specs.Demands.Kind.{four}
 use Rattle.heap.specs.Seen.{seen, base, FourPlaces}
 use Rattle.heap.proofs.Apart.{seen-same}
 use Rattle.frame.specs.declared.line.Request.the-variants.{Make, HandOut, TakeBack}

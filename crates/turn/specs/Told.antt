@@ -1,8 +1,8 @@
 -- WHAT `turn` HANDS BACK, a reply, as an outcome of the rules; and what a call hands back as a reply.
 use mathlib.Core.List.{List}
 use Prim.Native.Nat.{ℕ}
-use Rattle.rules.specs.Rules.{Outcome, says}
-use Rattle.rules.specs.Making.{State}
+use Rattle.rules.specs.Rules.Calls.{Outcome, says}
+use Rattle.rules.specs.Rules.Making.{State}
 use Rattle.heap.specs.declared.record.Record.{Record}
 use Rattle.heap.specs.declared.calls.Out.{Out}
 use Rattle.heap.specs.Seen.{seen}

@@ -6,9 +6,9 @@ use lib.Dec.{eqb, leb}
 use lib.ListN.{length, take, drop}
 use Rattle.words.specs.Choice.{pick}
 use Rattle.words.specs.Links.{narrow}
-use Rattle.rules.specs.Rules.{Outcome, says}
-use Rattle.rules.specs.Making.{State, make}
-use Rattle.rules.specs.Demands.{hand, back}
+use Rattle.rules.specs.Rules.Calls.{Outcome, says}
+use Rattle.rules.specs.Rules.Making.{State, make}
+use Rattle.rules.specs.Demands.Meaning.{hand, back}
 use Rattle.heap.specs.Seen.{base}
 use Rattle.frame.specs.declared.line.Request.{Request}
 use Rattle.frame.specs.declared.line.Request.the-variants.{Make, HandOut, TakeBack}

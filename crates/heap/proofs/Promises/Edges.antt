@@ -7,8 +7,8 @@ use lib.ListN.{length}
 use Rattle.heap.specs.declared.record.Record.{Record}
 use Rattle.heap.specs.Seen.{seen, base}
 use Rattle.heap.specs.Promises.{SoundIn, liveIn}
-use Rattle.rules.specs.Edges.{lengthSeen, liveSeen, Edge}
-use Rattle.rules.proofs.Edges.{narrow-edges}
+use Rattle.rules.specs.Demands.Edges.{lengthSeen, liveSeen, Edge}
+use Rattle.rules.proofs.Demands.Edges.{narrow-edges}
 
 module _ (places : ℕ) where
   -- a chunk of a sound heap begins at byte e, or its guard does; the length in the header there; and that length if it is live, else 0

@@ -13,15 +13,16 @@ use mathlib.Core.List.{List}
 use Prim.Native.Nat.{ℕ, _+_, _-_, _*_, _≤_, _<_}
 use lib.ListN.{length}
 use Rattle.words.specs.Sizes.{roundedOf, thresholdOf}
-use Rattle.rules.specs.Rules.{Outcome}
-use Rattle.rules.specs.Making.{State}
-use Rattle.rules.specs.Machine.{Model, Request, ask, withoutCacheM}
-use Rattle.rules.specs.Sound.{Accepted}
-use Rattle.rules.specs.FreeRuns.{longestRun}
-use Rattle.rules.specs.Demands.{NoneServes, FromCache, FromList, FromMerged, LiveAt}
-use Rattle.rules.specs.Claims.{Demands, Iff, Allowable, numbersOf}
-use Rattle.rules.proofs.Proved.{narrow-demands}
-use Rattle.rules.proofs.Promises.{narrow-promises}
+use Rattle.rules.specs.Rules.Calls.{Outcome}
+use Rattle.rules.specs.Rules.Making.{State}
+use Rattle.rules.specs.Sound.Model.{Model}
+use Rattle.rules.specs.Machine.Machine.{Request, ask, withoutCacheM}
+use Rattle.rules.specs.Sound.Sound.{Accepted}
+use Rattle.rules.specs.Demands.FreeRuns.{longestRun}
+use Rattle.rules.specs.Demands.Meaning.{NoneServes, FromCache, FromList, FromMerged, LiveAt}
+use Rattle.rules.specs.Demands.Demands.{Demands, Iff, Allowable, numbersOf}
+use Rattle.rules.proofs.Demands.Proved.{narrow-demands}
+use Rattle.rules.proofs.Demands.Promises.{narrow-promises}
 use Rattle.words.specs.Numbers.{numbers}
 use Rattle.heap.specs.declared.record.Record.{Record}
 use Rattle.heap.specs.declared.calls.Out.{Out}
@@ -29,9 +30,9 @@ use Rattle.heap.specs.Seen.{seen, base}
 use Rattle.heap.specs.Answer.{number, value, compared}
 use Rattle.heap.specs.Promises.{Makes, HandsOut, TakesBack, Calls, ShowsIn, SoundIn, NeverIn, UnfitIn, liveIn}
 use Rattle.heap.proofs.Histories.{outcome-call}
-use Rattle.rules.specs.Lists.{Mem}
-use Rattle.rules.specs.Promises.{Promises}
-use Rattle.rules.proofs.Making.{narrow-six}
+use Rattle.rules.specs.Rules.Lists.{Mem}
+use Rattle.rules.specs.Demands.Promises.{Promises}
+use Rattle.rules.proofs.Demands.Making.{narrow-six}
 
 module _ (places : ℕ) where
   -- the demands, of narrow links

@@ -6,14 +6,14 @@ use mathlib.Core.Path.{_≡_, sym, ap, _∙_, subst}
 use mathlib.Core.Logic.{_⊎_}
 use mathlib.Core.List.{List}
 use Prim.Native.Nat.{ℕ, _≤_, _<_, _+_, _-_}
-use Rattle.rules.specs.Chunks.{usedSum}
-use Rattle.rules.specs.Rules.{Figures, Outcome, withoutCacheF}
-use Rattle.rules.specs.Making.{State}
-use Rattle.rules.specs.Machine.{Model}
-use Rattle.rules.specs.Sound.{liveSum}
-use Rattle.rules.specs.Claims.{Demands}
-use Rattle.rules.proofs.Proved.{narrow-demands}
-use Rattle.rules.proofs.Promises.{narrow-promises}
+use Rattle.rules.specs.Rules.Chunks.{usedSum}
+use Rattle.rules.specs.Rules.Calls.{Figures, Outcome, withoutCacheF}
+use Rattle.rules.specs.Rules.Making.{State}
+use Rattle.rules.specs.Sound.Model.{Model}
+use Rattle.rules.specs.Sound.Sound.{liveSum}
+use Rattle.rules.specs.Demands.Demands.{Demands}
+use Rattle.rules.proofs.Demands.Proved.{narrow-demands}
+use Rattle.rules.proofs.Demands.Promises.{narrow-promises}
 use Rattle.words.specs.Numbers.{numbers}
 use Rattle.cache.specs.Places.{cachedOf}
 use Rattle.heap.specs.declared.record.Record.{Record}
@@ -21,8 +21,8 @@ use Rattle.heap.specs.declared.calls.Out.{Out}
 use Rattle.heap.specs.Seen.{seen, base, figuresOf}
 use Rattle.heap.specs.Answer.{number, value, compared}
 use Rattle.heap.specs.Promises.{Makes, HandsOut, TakesBack, ShowsIn, SoundIn, liveIn}
-use Rattle.rules.specs.Lives.{liveAt}
-use Rattle.rules.specs.Promises.{CountedUp, HeldOnly, Promises}
+use Rattle.rules.specs.Demands.Lives.{liveAt}
+use Rattle.rules.specs.Demands.Promises.{CountedUp, HeldOnly, Promises}
 use Rattle.heap.proofs.Promises.Kept.{made-sound}
 
 module _ (places : ℕ) where

@@ -10,20 +10,21 @@ use lib.ListN.{length}
 use Rattle.words.specs.Links.{narrow}
 use Rattle.words.specs.Sizes.{roundedOf}
 use Rattle.words.specs.Tags.{at}
-use Rattle.rules.specs.Chunks.{Chunk, busy, total}
-use Rattle.rules.specs.Rules.{Outcome, byteOf, nameOf}
-use Rattle.rules.specs.Making.{State}
-use Rattle.rules.specs.Machine.{Model, sizeM, withoutCacheM}
+use Rattle.rules.specs.Rules.Chunks.{Chunk, busy, total}
+use Rattle.rules.specs.Rules.Calls.{Outcome, byteOf, nameOf}
+use Rattle.rules.specs.Rules.Making.{State}
+use Rattle.rules.specs.Sound.Model.{Model}
+use Rattle.rules.specs.Machine.Machine.{sizeM, withoutCacheM}
 use Rattle.heap.specs.declared.record.Record.{Record}
 use Rattle.heap.specs.declared.calls.Out.{Out}
 use Rattle.heap.specs.Seen.{seen}
 use Rattle.heap.specs.Answer.{value, compared}
 use Rattle.heap.specs.Promises.{Makes, HandsOut, TakesBack, ShowsIn}
-use Rattle.rules.specs.Orders.{freeHead, freeLast}
-use Rattle.rules.specs.Frame.{NoLink, Outside, Clear}
-use Rattle.rules.specs.Demands.{FromMerged}
-use Rattle.rules.proofs.Making.{making-writes}
-use Rattle.rules.proofs.Frame.{narrow-frame}
+use Rattle.rules.specs.Machine.Orders.{freeHead, freeLast}
+use Rattle.rules.specs.Demands.Frame.{NoLink, Outside, Clear}
+use Rattle.rules.specs.Demands.Meaning.{FromMerged}
+use Rattle.rules.proofs.Demands.Making.{making-writes}
+use Rattle.rules.proofs.Demands.Frame.{narrow-frame}
 
 module _ (places : ℕ) where
   -- making changes words 0, 1, n - 2 and n - 1 and no other

@@ -6,12 +6,13 @@ use mathlib.Core.Path.{_≡_, sym, ap, _∙_, subst}
 use mathlib.Core.List.{List}
 use Prim.Native.Nat.{ℕ, _<_}
 use lib.ListN.{length}
-use Rattle.rules.specs.Rules.{Outcome}
-use Rattle.rules.specs.Making.{State}
-use Rattle.rules.specs.Machine.{Model, Request, madeM}
-use Rattle.rules.specs.Sound.{Shows, Sound}
-use Rattle.rules.specs.Claims.{Demands}
-use Rattle.rules.proofs.Proved.{narrow-demands, narrow-making}
+use Rattle.rules.specs.Rules.Calls.{Outcome}
+use Rattle.rules.specs.Rules.Making.{State}
+use Rattle.rules.specs.Sound.Model.{Model}
+use Rattle.rules.specs.Machine.Machine.{Request, madeM}
+use Rattle.rules.specs.Sound.Sound.{Shows, Sound}
+use Rattle.rules.specs.Demands.Demands.{Demands}
+use Rattle.rules.proofs.Demands.Proved.{narrow-demands, narrow-making}
 use Rattle.heap.specs.declared.record.Record.{Record}
 use Rattle.heap.specs.declared.calls.Out.{Out}
 use Rattle.heap.specs.Seen.{seen, base, FourPlaces}

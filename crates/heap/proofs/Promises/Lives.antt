@@ -9,13 +9,14 @@ use Prim.Native.Nat.{ℕ, _≤_, _<_, _+_, _-_, _*_, _%_}
 use lib.ListN.{length}
 use Rattle.words.specs.Sizes.{roundedOf}
 use Rattle.words.specs.Tags.{at}
-use Rattle.rules.specs.Rules.{Outcome}
-use Rattle.rules.specs.Making.{State}
-use Rattle.rules.specs.Machine.{Model, ask}
-use Rattle.rules.specs.Sound.{Shows}
-use Rattle.rules.specs.Demands.{LiveAt, Holds}
-use Rattle.rules.specs.Claims.{Demands}
-use Rattle.rules.proofs.Proved.{narrow-demands}
+use Rattle.rules.specs.Rules.Calls.{Outcome}
+use Rattle.rules.specs.Rules.Making.{State}
+use Rattle.rules.specs.Sound.Model.{Model}
+use Rattle.rules.specs.Machine.Machine.{ask}
+use Rattle.rules.specs.Sound.Sound.{Shows}
+use Rattle.rules.specs.Demands.Meaning.{LiveAt, Holds}
+use Rattle.rules.specs.Demands.Demands.{Demands}
+use Rattle.rules.proofs.Demands.Proved.{narrow-demands}
 use Rattle.heap.specs.declared.record.Record.{Record}
 use Rattle.heap.specs.declared.calls.Out.{Out}
 use Rattle.heap.specs.Seen.{seen, base}
@@ -24,10 +25,10 @@ use Rattle.heap.specs.Promises.{Makes, HandsOut, TakesBack, ShowsIn, Sou
 use Rattle.heap.proofs.Promises.Kept.{sound-kept}
 use Rattle.heap.proofs.Promises.Exactly.{served-exactly}
 use native.Mathlib.Omega.{arith}
-use Rattle.rules.specs.Lives.{liveAt, NewPayload, GonePayload, Lives}
-use Rattle.rules.proofs.Lives.{narrow-lives}
-use Rattle.rules.proofs.Making.{narrow-none-live}
-use Rattle.rules.proofs.Frame.{narrow-frame}
+use Rattle.rules.specs.Demands.Lives.{liveAt, NewPayload, GonePayload, Lives}
+use Rattle.rules.proofs.Demands.Lives.{narrow-lives}
+use Rattle.rules.proofs.Demands.Making.{narrow-none-live}
+use Rattle.rules.proofs.Demands.Frame.{narrow-frame}
 
 module _ (places : ℕ) where
   -- the demands, of narrow links

@@ -7,27 +7,28 @@ use mathlib.Core.List.{List}
 use Prim.Native.Nat.{ℕ}
 use lib.ListN.{length, set}
 use Rattle.words.specs.Tags.{at}
-use Rattle.rules.specs.Rules.{Outcome}
-use Rattle.rules.specs.Making.{State}
-use Rattle.rules.specs.Machine.{Model, Request, madeM, stepsM, repliesM, answerOf, callM}
-use Rattle.rules.specs.Machine as rule
-use Rattle.rules.specs.Sound.{Shows}
-use Rattle.rules.specs.Demands.{LiveAt, Holds}
-use Rattle.rules.specs.TwoRuns.{Event, requests, run}
-use Rattle.rules.specs.Runs.{acts, Same}
-use Rattle.rules.specs.Claims.{Demands}
-use Rattle.rules.proofs.Proved.{narrow-demands, narrow-edition}
-use Rattle.rules.proofs.Promises.{narrow-promises}
-use Rattle.rules.proofs.Runs.{steps-machine, replies-machine, write-shows}
+use Rattle.rules.specs.Rules.Calls.{Outcome}
+use Rattle.rules.specs.Rules.Making.{State}
+use Rattle.rules.specs.Sound.Model.{Model}
+use Rattle.rules.specs.Machine.Machine.{Request, madeM, stepsM, repliesM, answerOf, callM}
+use Rattle.rules.specs.Machine.Machine as rule
+use Rattle.rules.specs.Sound.Sound.{Shows}
+use Rattle.rules.specs.Demands.Meaning.{LiveAt, Holds}
+use Rattle.rules.specs.Demands.Events.{Event, requests, run}
+use Rattle.rules.specs.Demands.TwoHeaps.{acts, Same}
+use Rattle.rules.specs.Demands.Demands.{Demands}
+use Rattle.rules.proofs.Demands.Proved.{narrow-demands, narrow-edition}
+use Rattle.rules.proofs.Demands.Promises.{narrow-promises}
+use Rattle.rules.proofs.Demands.Runs.{steps-machine, replies-machine, write-shows}
 use Rattle.heap.specs.declared.record.Record.{Record}
 use Rattle.heap.specs.declared.calls.Out.{Out}
 use Rattle.heap.specs.Seen.{seen, base}
 use Rattle.heap.specs.Answer.{number, value, said}
 use Rattle.heap.specs.Promises.{Makes, HandsOut, Calls, LiveIn, FromMaking, ShowsIn, liveIn}
 use Rattle.heap.proofs.Histories.{after-call, history, answer-call}
-use Rattle.rules.specs.Promises.{Promises}
-use Rattle.rules.proofs.Lives.{live-shown}
-use Rattle.rules.proofs.LiveWords.{live-length, live-found}
+use Rattle.rules.specs.Demands.Promises.{Promises}
+use Rattle.rules.proofs.Demands.Lives.{live-shown}
+use Rattle.rules.proofs.Demands.LiveWords.{live-length, live-found}
 use Rattle.heap.proofs.Promises.Kept.{made-sound}
 use Rattle.heap.proofs.Promises.Lives.{empty-there}
 

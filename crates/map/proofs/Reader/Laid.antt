@@ -10,7 +10,7 @@ use native.Mathlib.Omega.{arith}
 use lib.ListN.{length, take, drop, set}
 use lib.Seq.{drop-at, drop-drop, sets-eq}
 use borrow.Author.Tests.{eq-eqb}
-use Rattle.rules.specs.Rules.{Outcome, says}
+use Rattle.rules.specs.Rules.Calls.{Outcome, says}
 use Rattle.map.specs.declared.rows.Row.{Row}
 use Rattle.map.specs.declared.rows.Place.{Place}
 use Rattle.map.specs.declared.rows.Line.the-variants.{Good, Bad}

@@ -6,8 +6,8 @@ use lib.ListN.{length}
 use borrow.Author.Needs.{needs}
 use borrow.Author.Tests.{eq-eqb, ne-eqb, not-true, not-false}
 use Rattle.words.specs.Links.{narrow}
-use Rattle.rules.specs.Rules.{says}
-use Rattle.rules.specs.Making.{State, make, acceptedᵇ}
+use Rattle.rules.specs.Rules.Calls.{says}
+use Rattle.rules.specs.Rules.Making.{State, make, acceptedᵇ}
 use Rattle.heap.specs.Seen.{seen}
 use Rattle.door.specs.Reply.{makeOver}
 use Rattle.door.proofs.Numbers.{same-outcome}

@@ -6,8 +6,8 @@ use native.Mathlib.Omega.{arith}
 use lib.ListN.{length}
 use borrow.Author.Needs.{needs}
 use Rattle.words.specs.Tags.{at}
-use Rattle.rules.specs.Chunks.{total}
-use Rattle.rules.specs.Place.{tile}
+use Rattle.rules.specs.Rules.Chunks.{total}
+use Rattle.rules.specs.Rules.Place.{tile}
 use Rattle.map.specs.Writing.{chunksIn}
 use Rattle.map.proofs.Writing.{Left, tile-out, tile-guard, chunk-left}
 use Rattle.map.proofs.write.count_chunks.Statement.{statement}

@@ -9,8 +9,8 @@ use borrow.Author.Needs.{needs}
 use Rattle.words.specs.Tags.{at}
 use Rattle.words.specs.Numbers.{numbers}
 use Rattle.cache.specs.Places.{cachedOf}
-use Rattle.rules.specs.Chunks.{total}
-use Rattle.rules.specs.Place.{tile}
+use Rattle.rules.specs.Rules.Chunks.{total}
+use Rattle.rules.specs.Rules.Place.{tile}
 use Rattle.map.specs.Rows.{linesOf}
 use Rattle.map.specs.Layout.{mapOf}
 use Rattle.map.specs.Calls.{over}

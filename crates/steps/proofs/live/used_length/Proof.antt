@@ -7,7 +7,7 @@ use native.Mathlib.Omega.{arith}
 use lib.ListN.{length}
 use borrow.Author.Needs.{needs}
 use Rattle.words.specs.Tags.{at}
-use Rattle.rules.specs.Place.{usedWalk}
+use Rattle.rules.specs.Rules.Place.{usedWalk}
 use Rattle.steps.proofs.Tiling.{used-out, used-guard, used-here, used-inside, used-on}
 use Rattle.steps.proofs.live.used_length.Statement.{statement}
 use Rattle.steps.proofs.live.used_length.Tie as tie

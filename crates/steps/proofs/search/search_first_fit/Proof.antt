@@ -6,7 +6,7 @@ use native.Mathlib.Omega.{arith}
 use borrow.Author.Needs.{needs}
 use Rattle.words.specs.Numbers.{numbers}
 use Rattle.words.specs.Sizes.{startOf}
-use Rattle.rules.specs.Search.{searchAll}
+use Rattle.rules.specs.Rules.Search.{searchAll}
 use Rattle.steps.specs.declared.search.Found.{Found}
 use Rattle.steps.specs.Found.{told, walkIn}
 use Rattle.steps.proofs.Walks.{walk-bound, fit-out, fit-hit, fit-miss, fit-lost}
