@@ -15,7 +15,7 @@ use Rattle.rules.specs.Rules.Calls.{byteOf}
 use Rattle.rules.specs.Sound.Model.{Model}
 use Rattle.rules.specs.Machine.Machine.{gaveM, emptyCacheM, withoutCacheM}
 use Rattle.rules.specs.Demands.FreeRuns.{longest}
-use Rattle.rules.proofs.Demands.Follow.{letGoM}
+use Rattle.rules.proofs.Demands.Released.{letGoM}
 
 join-longest : (c : Chunk) (cs : List Chunk) → longest (c ∷ cs) ≤ longest (join c cs)
 unfolding join
