@@ -74,26 +74,6 @@ returns-8 c = tell-by _ _ _ (c .before .enum-told6 .given .1) (c .refuse6 .ensur
 pub tell-spec : {M : Type 1} → statement M
 tell-spec =
     tie.close
-    (tie.spec
-    enum-known-answer
-    enum-told
-    refuse-requires
-    enum-told-2
-    refuse-requires-2
-    enum-known-answer-2
-    enum-told-3
-    refuse-requires-3
-    enum-told-4
-    refuse-requires-4
-    enum-told-5
-    refuse-requires-5
-    enum-told-6
-    refuse-requires-6
-    returns
-    returns-2
-    returns-3
-    returns-4
-    returns-5
-    returns-6
-    returns-7
+    (tie.spec enum-known-answer enum-told refuse-requires enum-told-2 refuse-requires-2 enum-known-answer-2 enum-told-3 refuse-requires-3 enum-told-4
+    refuse-requires-4 enum-told-5 refuse-requires-5 enum-told-6 refuse-requires-6 returns returns-2 returns-3 returns-4 returns-5 returns-6 returns-7
     returns-8)

@@ -80,28 +80,5 @@ returns-8 c = c .of8 .ensures ∙ sym (ap replyOf (c .before .enum-told6 .given 
 pub reply-of-spec : {M : Type 1} → statement M
 reply-of-spec =
     tie.close
-    (tie.spec
-    enum-known-a
-    of-requires
-    enum-told
-    of-requires-2
-    enum-told-2
-    of-requires-3
-    enum-known-a-2
-    of-requires-4
-    enum-told-3
-    of-requires-5
-    enum-told-4
-    of-requires-6
-    enum-told-5
-    of-requires-7
-    enum-told-6
-    of-requires-8
-    returns
-    returns-2
-    returns-3
-    returns-4
-    returns-5
-    returns-6
-    returns-7
-    returns-8)
+    (tie.spec enum-known-a of-requires enum-told of-requires-2 enum-told-2 of-requires-3 enum-known-a-2 of-requires-4 enum-told-3 of-requires-5 enum-told-4
+    of-requires-6 enum-told-5 of-requires-7 enum-told-6 of-requires-8 returns returns-2 returns-3 returns-4 returns-5 returns-6 returns-7 returns-8)
