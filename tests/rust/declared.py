@@ -24,7 +24,7 @@ FIELDS = {"rec": "record"}  # antt reserves the word record
 # The sources, and how many structs and functions each is to declare.
 SOURCES = {
     "bindings/rust/src/door.rs": (["bindings/rust/src/door.rs"], 3, 14),
-    "oracle/compare-parts": (["oracle/compare-parts/door.rs", "oracle/compare-parts/port.rs"], 3, 12),
+    "judges/pair": (["judges/pair/door.rs", "judges/pair/port.rs"], 3, 12),
     "crates/door": (["crates/heap/src/record.rt", "crates/door/src/reply.rt", "crates/door/src/lib.rt"], 3, 14),
 }
 

@@ -2,14 +2,12 @@
 //!
 //!     between BEFORE AFTER     what the two are called in the table
 //!
-//! oracle/between links both, each with its own beginning to the names of its functions. Prints a table. Both versions get the same
+//! bench/between links both, each with its own beginning to the names of its functions. Prints a table. Both versions get the same
 //! requests on heaps in the same states, with one cache place; a version that serves them otherwise than the row says ends the run with status 1.
 
-#[path = "compare-parts/door.rs"]
+#[path = "../judges/pair/door.rs"]
 mod door;
-#[path = "compare-parts/measure.rs"]
 mod measure;
-#[path = "compare-parts/states.rs"]
 mod states;
 
 use door::{Door, Record, Reply};
@@ -22,7 +20,7 @@ use std::process::exit;
 // The record has the size that the headers of both versions say.
 const _: () = assert!(
     matches!(usize::from_str_radix(env!("RECORD_BYTES"), 10), Ok(bytes) if bytes == size_of::<Record>()),
-    "oracle/compare-parts/door.rs has another record than include/lischemur.h"
+    "judges/pair/door.rs has another record than include/lischemur.h"
 );
 
 #[link(name = "before", kind = "static")]
@@ -294,7 +292,7 @@ fn shown(nanoseconds: f64) -> String {
 fn main() {
     let names: Vec<String> = env::args().skip(1).collect();
     if names.len() != 2 {
-        eprintln!("between: say what the two versions are called; oracle/between does");
+        eprintln!("between: say what the two versions are called; bench/between does");
         exit(2);
     }
     println!(
