@@ -8,8 +8,13 @@
 #[path = "../judges/pair/door.rs"]
 mod door;
 mod measure;
+#[path = "../bindings/rust/src/record.rs"]
+mod record;
 mod states;
-// The bench uses a part of these two.
+// The bench uses a part of these three.
+#[allow(dead_code)]
+#[path = "../bindings/rust/src/door.rs"]
+mod library;
 #[allow(dead_code)]
 #[path = "../judges/pair/numbers.rs"]
 mod numbers;

@@ -8,10 +8,15 @@
 #[path = "../judges/pair/door.rs"]
 mod door;
 mod measure;
+// The mark is not measured.
+#[allow(dead_code)]
+#[path = "../bindings/rust/src/record.rs"]
+mod record;
 mod states;
 
-use door::{Door, Record, Reply};
+use door::Door;
 use measure::{ratio, Ratio, REPEATS, SPELLS};
+use record::{Record, Reply};
 use states::{bring, long, Heap, Requests, WORDS};
 use std::env;
 use std::hint::black_box;
@@ -20,20 +25,20 @@ use std::process::exit;
 // The record has the size that the headers of both versions say.
 const _: () = assert!(
     matches!(usize::from_str_radix(env!("RECORD_BYTES"), 10), Ok(bytes) if bytes == size_of::<Record>()),
-    "judges/pair/door.rs has another record than include/lischemur.h"
+    "bindings/rust/src/record.rs has another record than include/lischemur.h"
 );
 
 #[link(name = "before", kind = "static")]
 extern "C" {
-    fn before_lischemur_make(record: &mut Record, heap: *mut u32, len: u64, words: u32) -> Reply;
+    fn before_lischemur_make(record: *mut Record, heap: *mut u32, len: u64, words: u32) -> Reply;
     fn before_lischemur_one_hand_out(
-        record: &mut Record,
+        record: *mut Record,
         heap: *mut u32,
         len: u64,
         size: u32,
     ) -> Reply;
     fn before_lischemur_one_take_back(
-        record: &mut Record,
+        record: *mut Record,
         heap: *mut u32,
         len: u64,
         at: u32,
@@ -43,15 +48,15 @@ extern "C" {
 
 #[link(name = "after", kind = "static")]
 extern "C" {
-    fn after_lischemur_make(record: &mut Record, heap: *mut u32, len: u64, words: u32) -> Reply;
+    fn after_lischemur_make(record: *mut Record, heap: *mut u32, len: u64, words: u32) -> Reply;
     fn after_lischemur_one_hand_out(
-        record: &mut Record,
+        record: *mut Record,
         heap: *mut u32,
         len: u64,
         size: u32,
     ) -> Reply;
     fn after_lischemur_one_take_back(
-        record: &mut Record,
+        record: *mut Record,
         heap: *mut u32,
         len: u64,
         at: u32,

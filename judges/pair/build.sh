@@ -9,6 +9,7 @@ library_in() { # FOLDER
 build_program() { # FOLDER/NAME.rs
     folder=$(dirname "$(library_in .)")
     judges/rust/build
-    rustc -O --edition 2021 --extern oracle=target/judges/release/liboracle.rlib -L "native=$folder" \
+    # the names of this computer's library end in no processor's
+    LISCHEMUR_PART='' rustc -O --edition 2021 --extern oracle=target/judges/release/liboracle.rlib -L "native=$folder" \
         -o "target/judges/release/$(basename "$1" .rs)" "$1"
 }

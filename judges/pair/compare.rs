@@ -13,16 +13,23 @@ mod beside;
 mod cached;
 mod damage;
 mod door;
+// The declarations of the Rust crate, of which a part is used here.
+#[allow(dead_code)]
+#[path = "../../bindings/rust/src/door.rs"]
+mod library;
 mod numbers;
 mod pair;
 mod plain;
 mod port;
+#[path = "../../bindings/rust/src/record.rs"]
+mod record;
 
 use beside::Beside;
 use damage::State;
 use numbers::Numbers;
 use pair::{History, Pair, Step, LARGEST_SIZE};
-use port::{Kind, Record, Reply};
+use port::Kind;
+use record::{Record, Reply};
 use std::process::exit;
 use std::time::{Duration, Instant};
 

@@ -1,67 +1,8 @@
-//! The port as Rust sees it: the functions of target/library/libdoor.a, which crate `door` exports.
+//! The port: the functions of target/library/libdoor.a, as bindings/rust/src/door.rs declares them, with four cache places and with one.
 
 use crate::door::Door;
-pub use crate::door::{Record, Reply};
-
-/// What the mark says, and the record with its flag off.
-#[repr(C)]
-struct Marking {
-    mark: i64,
-    changed: u32,
-    record: Record,
-}
-
-mod library {
-    use super::{Marking, Record, Reply};
-
-    #[link(name = "door", kind = "static")]
-    extern "C" {
-        #[link_name = "lischemur_make_needs_library_of_layout_4"]
-        pub fn lischemur_make(record: &mut Record, heap: *mut u32, len: u64, words: u32) -> Reply;
-        #[link_name = "lischemur_hand_out_needs_library_of_layout_4"]
-        pub fn lischemur_hand_out(
-            record: &mut Record,
-            heap: *mut u32,
-            len: u64,
-            size: u32,
-        ) -> Reply;
-        #[link_name = "lischemur_take_back_needs_library_of_layout_4"]
-        pub fn lischemur_take_back(
-            record: &mut Record,
-            heap: *mut u32,
-            len: u64,
-            payload: u32,
-        ) -> Reply;
-        #[link_name = "lischemur_audit_needs_library_of_layout_4"]
-        pub fn lischemur_audit(record: Record, heap: *const u32, len: u64) -> u32;
-        #[link_name = "lischemur_one_hand_out_needs_library_of_layout_4"]
-        pub fn lischemur_one_hand_out(
-            record: &mut Record,
-            heap: *mut u32,
-            len: u64,
-            size: u32,
-        ) -> Reply;
-        #[link_name = "lischemur_one_take_back_needs_library_of_layout_4"]
-        pub fn lischemur_one_take_back(
-            record: &mut Record,
-            heap: *mut u32,
-            len: u64,
-            payload: u32,
-        ) -> Reply;
-        #[link_name = "lischemur_one_audit_needs_library_of_layout_4"]
-        pub fn lischemur_one_audit(record: Record, heap: *const u32, len: u64) -> u32;
-        #[link_name = "lischemur_mark_needs_library_of_layout_4"]
-        pub fn lischemur_mark(record: Record, stacklets: u32) -> Marking;
-        #[link_name = "lischemur_in_use_needs_library_of_layout_4"]
-        pub fn lischemur_in_use(record: Record) -> u32;
-        #[link_name = "lischemur_committed_needs_library_of_layout_4"]
-        pub fn lischemur_committed(record: Record) -> u32;
-        #[link_name = "lischemur_peak_needs_library_of_layout_4"]
-        pub fn lischemur_peak(record: Record) -> u32;
-        #[link_name = "lischemur_high_water_needs_library_of_layout_4"]
-        pub fn lischemur_high_water(record: Record) -> u32;
-    }
-}
+use crate::library;
+use crate::record::Record;
 
 /// The library's calls with four cache places.
 pub const DOOR: Door = Door {
@@ -104,7 +45,7 @@ pub const KINDS: [Kind; 2] = [ONE, FOUR];
 /// The mark, or nothing if high water has not just been updated; the flag clears.
 pub fn mark(record: &mut Record, stacklets: u32) -> Option<i64> {
     let marking = unsafe { library::lischemur_mark(*record, stacklets) };
-    *record = marking.record;
+    *record = marking.rec;
     (marking.changed == 1).then_some(marking.mark)
 }
 
