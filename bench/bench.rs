@@ -2,21 +2,24 @@
 //!
 //!     bench [FILE]
 //!
-//! Prints the figures; with FILE it also writes there the sections of docs/BENCHMARKS.md that `oracle/bench --record` puts in their place.
+//! Prints the figures; with FILE it also writes there the sections of docs/BENCHMARKS.md that `bench/run --record` puts in their place.
 //! Status 1 if the audit misses a target by more than twice.
 
-#[path = "compare-parts/door.rs"]
+#[path = "../judges/pair/door.rs"]
 mod door;
-#[path = "compare-parts/measure.rs"]
 mod measure;
-#[path = "compare-parts/states.rs"]
+#[path = "../bindings/rust/src/record.rs"]
+mod record;
 mod states;
-// The bench uses a part of these two.
+// The bench uses a part of these three.
 #[allow(dead_code)]
-#[path = "compare-parts/numbers.rs"]
+#[path = "../bindings/rust/src/door.rs"]
+mod library;
+#[allow(dead_code)]
+#[path = "../judges/pair/numbers.rs"]
 mod numbers;
 #[allow(dead_code)]
-#[path = "compare-parts/port.rs"]
+#[path = "../judges/pair/port.rs"]
 mod port;
 
 use measure::{ratio, Ratio, REPEATS, SPELLS};
@@ -176,7 +179,7 @@ fn rows(rows: &[Row]) -> String {
 fn sections(audits: &[Row], untargeted: &[Row], calls: &[Row]) -> String {
     format!(
         "\
-`oracle/bench` measures this section and the next; `oracle/bench --record` also writes them here and draws the plot. The figures are ratios of times on one computer,
+`bench/run` measures this section and the next; `bench/run --record` also writes them here and draws the plot. The figures are ratios of times on one computer,
 both sides optimised and measured in turns in one process: the median of {REPEATS} repeats, and the least and the most. A repeat keeps
 the fastest of {SPELLS} short spells of either side. On a busy computer the audit was seen
 to take up to twice its time where a walk of 4,000 chunks hardly took longer, so there medians and spreads are higher.

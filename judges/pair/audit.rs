@@ -1,7 +1,7 @@
 //! The audit once more, written from the rules' paragraph "Sound" and from nothing else: plain, quadratic, to be read beside it.
 //! It is what the proved audit is compared with.
 
-use crate::port::Record;
+use crate::record::Record;
 
 /// A chunk of the tiling.
 #[derive(Clone, Copy)]

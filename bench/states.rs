@@ -1,6 +1,7 @@
 //! Heaps in the states that are measured: a door with its record and words, and how such a heap is brought into a shape.
 
-use crate::door::{Door, Record, Reply};
+use crate::door::Door;
+use crate::record::{Record, Reply};
 
 /// The words of the long heaps.
 pub const WORDS: u32 = 16_383;

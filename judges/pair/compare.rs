@@ -5,33 +5,31 @@
 //! Every short history on tiny heaps, frees in every order and heaps of every length up to 4,001 are run whole; random histories, and
 //! damage to the heaps that they leave, fill the rest of the seconds (110 if not said). A difference is shown by the
 //! smallest history that could be found, and ends the run with status 1. docs/ORACLE.md says what the Rust is asked and what it
-//! is not; compare-parts/pair.rs what is compared with it. The Rust has one cache place; each configuration of the library, by its number of places, is
-//! also compared with compare-parts/plain.rs, as compare-parts/beside.rs says. compare-parts/audit.rs is the audit that the proved one is compared with.
+//! is not; pair.rs what is compared with it. The Rust has one cache place; each configuration of the library, by its number of places, is
+//! also compared with plain.rs, as beside.rs says. audit.rs is the audit that the proved one is compared with.
 
-#[path = "compare-parts/audit.rs"]
 mod audit;
-#[path = "compare-parts/beside.rs"]
 mod beside;
-#[path = "compare-parts/cached.rs"]
 mod cached;
-#[path = "compare-parts/damage.rs"]
 mod damage;
-#[path = "compare-parts/door.rs"]
 mod door;
-#[path = "compare-parts/numbers.rs"]
+// The declarations of the Rust crate, of which a part is used here.
+#[allow(dead_code)]
+#[path = "../../bindings/rust/src/door.rs"]
+mod library;
 mod numbers;
-#[path = "compare-parts/pair.rs"]
 mod pair;
-#[path = "compare-parts/plain.rs"]
 mod plain;
-#[path = "compare-parts/port.rs"]
 mod port;
+#[path = "../../bindings/rust/src/record.rs"]
+mod record;
 
 use beside::Beside;
 use damage::State;
 use numbers::Numbers;
 use pair::{History, Pair, Step, LARGEST_SIZE};
-use port::{Kind, Record, Reply};
+use port::Kind;
+use record::{Record, Reply};
 use std::process::exit;
 use std::time::{Duration, Instant};
 

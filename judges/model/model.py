@@ -6,7 +6,7 @@ words, except which words hold links (for dumps only). docs/ORACLE.md says what 
 
 As a program it is the trace program of the rules, with the harness's options:
 
-    python3 oracle/model.py [--places 1|4] [--dump] [--words N] [--fill SEED] [--marks STACKLETS] < frames
+    python3 judges/model/model.py [--places 1|4] [--dump] [--words N] [--fill SEED] [--marks STACKLETS] < frames
 
 A heap has one cache place, as document 01 and the Rust have it, or four, as W-205 does: four if it is not said.
 

@@ -10,7 +10,8 @@ use crate::damage::State;
 use crate::numbers::Numbers;
 use crate::pair::{misleading, History, Step};
 use crate::plain::{Answer, Plain};
-use crate::port::{self, Kind, Record, Reply};
+use crate::port::{self, Kind};
+use crate::record::{Record, Reply};
 
 /// Words behind a heap that are watched, and the longest memory that is ever lent.
 const BEHIND: usize = 8;

@@ -1,6 +1,6 @@
 //! The cache places of a record as a list of links, oldest first.
 
-use crate::door::Record;
+use crate::record::Record;
 
 impl Record {
     /// The links in the cache places, without the unused ones at the end.

@@ -1,31 +1,7 @@
-//! What crosses the door of the proved library, as Rust sees it, and a door as a value: the functions of one library, by which a program
-//! can hold two. Slices cross as a pointer and a length. Nothing checks these declarations against crates/door/src but the comparison.
+//! A door as a value: the functions of one library, by which a program can hold two. What crosses it is declared in bindings/rust/src/record.rs.
 
+use crate::record::{Record, Reply};
 use std::fmt;
-
-/// The record, field by field that of crates/heap/src/record.rt. Links 0 to 5 name the sentinels, w + 6 the header at word w.
-#[repr(C)]
-#[derive(Clone, Copy, PartialEq, Debug, Default)]
-pub struct Record {
-    pub prev: [u16; 6],
-    pub next: [u16; 6],
-    pub cached: [u16; 4],
-    pub words: u32,
-    pub in_use: u32,
-    pub committed: u32,
-    pub peak: u32,
-    pub high: u32,
-    pub fresh: u32,
-}
-
-/// An answer: number, value, free chunks compared.
-#[repr(C)]
-#[derive(Clone, Copy, PartialEq, Debug)]
-pub struct Reply {
-    pub number: u32,
-    pub value: u32,
-    pub compared: u32,
-}
 
 impl fmt::Display for Reply {
     fn fmt(&self, out: &mut fmt::Formatter) -> fmt::Result {
@@ -34,7 +10,7 @@ impl fmt::Display for Reply {
 }
 
 /// A call that lends record and words and says a number: words, bytes or an offset.
-pub type Call = unsafe extern "C" fn(&mut Record, *mut u32, u64, u32) -> Reply;
+pub type Call = unsafe extern "C" fn(*mut Record, *mut u32, u64, u32) -> Reply;
 
 /// The calls of a library.
 #[derive(Clone, Copy)]

@@ -1,4 +1,4 @@
-"""Histories for oracle/test: random ones, all short ones, and models with a slip to be told from the Rust.
+"""Histories for judges/test: random ones, all short ones, and models with a slip to be told from the Rust.
 
 A history is a run of trace frames with the lines that the model writes for them, dumps included.
 """
@@ -493,7 +493,7 @@ SLIPS_WITH_PLACES = (
 )
 
 # Slips that show only where the cache is emptied or a size can never fit, before which a run against the Rust ends, or in the number and count of a
-# refusal, which the Rust does not say; and for each the smallest history that tells it, as oracle/smallest finds it, on a heap with four cache places: by
+# refusal, which the Rust does not say; and for each the smallest history that tells it, as judges/model/smallest finds it, on a heap with four cache places: by
 # an answer where there is one, else by a word
 SLIPS_IN_REFUSING = {
     SaysNoWithTheCacheFull: "make 135, ask 12, ask 532",

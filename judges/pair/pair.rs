@@ -24,7 +24,8 @@ use crate::beside::answer;
 use crate::damage::State;
 use crate::numbers::Numbers;
 use crate::plain::Plain;
-use crate::port::{self, Kind, Record, Reply};
+use crate::port::{self, Kind};
+use crate::record::{Record, Reply};
 use oracle::{can_make, Name, Oracle};
 
 /// The largest size that the rules serve.

@@ -2,18 +2,21 @@
 //!
 //!     between BEFORE AFTER     what the two are called in the table
 //!
-//! oracle/between links both, each with its own beginning to the names of its functions. Prints a table. Both versions get the same
+//! bench/between links both, each with its own beginning to the names of its functions. Prints a table. Both versions get the same
 //! requests on heaps in the same states, with one cache place; a version that serves them otherwise than the row says ends the run with status 1.
 
-#[path = "compare-parts/door.rs"]
+#[path = "../judges/pair/door.rs"]
 mod door;
-#[path = "compare-parts/measure.rs"]
 mod measure;
-#[path = "compare-parts/states.rs"]
+// The mark is not measured.
+#[allow(dead_code)]
+#[path = "../bindings/rust/src/record.rs"]
+mod record;
 mod states;
 
-use door::{Door, Record, Reply};
+use door::Door;
 use measure::{ratio, Ratio, REPEATS, SPELLS};
+use record::{Record, Reply};
 use states::{bring, long, Heap, Requests, WORDS};
 use std::env;
 use std::hint::black_box;
@@ -22,20 +25,20 @@ use std::process::exit;
 // The record has the size that the headers of both versions say.
 const _: () = assert!(
     matches!(usize::from_str_radix(env!("RECORD_BYTES"), 10), Ok(bytes) if bytes == size_of::<Record>()),
-    "oracle/compare-parts/door.rs has another record than include/lischemur.h"
+    "bindings/rust/src/record.rs has another record than include/lischemur.h"
 );
 
 #[link(name = "before", kind = "static")]
 extern "C" {
-    fn before_lischemur_make(record: &mut Record, heap: *mut u32, len: u64, words: u32) -> Reply;
+    fn before_lischemur_make(record: *mut Record, heap: *mut u32, len: u64, words: u32) -> Reply;
     fn before_lischemur_one_hand_out(
-        record: &mut Record,
+        record: *mut Record,
         heap: *mut u32,
         len: u64,
         size: u32,
     ) -> Reply;
     fn before_lischemur_one_take_back(
-        record: &mut Record,
+        record: *mut Record,
         heap: *mut u32,
         len: u64,
         at: u32,
@@ -45,15 +48,15 @@ extern "C" {
 
 #[link(name = "after", kind = "static")]
 extern "C" {
-    fn after_lischemur_make(record: &mut Record, heap: *mut u32, len: u64, words: u32) -> Reply;
+    fn after_lischemur_make(record: *mut Record, heap: *mut u32, len: u64, words: u32) -> Reply;
     fn after_lischemur_one_hand_out(
-        record: &mut Record,
+        record: *mut Record,
         heap: *mut u32,
         len: u64,
         size: u32,
     ) -> Reply;
     fn after_lischemur_one_take_back(
-        record: &mut Record,
+        record: *mut Record,
         heap: *mut u32,
         len: u64,
         at: u32,
@@ -294,7 +297,7 @@ fn shown(nanoseconds: f64) -> String {
 fn main() {
     let names: Vec<String> = env::args().skip(1).collect();
     if names.len() != 2 {
-        eprintln!("between: say what the two versions are called; oracle/between does");
+        eprintln!("between: say what the two versions are called; bench/between does");
         exit(2);
     }
     println!(

@@ -4,7 +4,7 @@
 use crate::audit::{class_of, tiling, Chunk};
 use crate::numbers::Numbers;
 use crate::pair::misleading;
-use crate::port::Record;
+use crate::record::Record;
 
 /// A record and its words, to be damaged.
 #[derive(Clone, PartialEq)]

@@ -1,12 +1,12 @@
 """Puts a section into docs/BENCHMARKS.md between two marks of its own: in the place of the one that was there, or at the end.
 
-    python3 oracle/compare-parts/keep.py MARK HEADING < TEXT
+    python3 bench/keep.py MARK HEADING < TEXT
 """
 
 import os
 import sys
 
-PATH = os.path.join(os.path.dirname(os.path.abspath(__file__)), "..", "..", "docs", "BENCHMARKS.md")
+PATH = os.path.join(os.path.dirname(os.path.abspath(__file__)), "..", "docs", "BENCHMARKS.md")
 
 
 def keep(mark, heading, text):
