@@ -52,16 +52,8 @@ impl Reply {
 fn reply_of(a: Answer) -> Reply
     ensures { λ r. ⌜ r ≡ replyOf a ⌝ }
 {
-    match a {
-        Answer::Done(p, c) => Reply::of(0, p.0, c),
-        Answer::ZeroSize => Reply::of(1, 0, 0),
-        Answer::TooLarge => Reply::of(2, 0, 0),
-        Answer::NoFit(c) => Reply::of(3, 0, c),
-        Answer::NotLive => Reply::of(4, 0, 0),
-        Answer::Damaged => Reply::of(5, 0, 0),
-        Answer::BadLength => Reply::of(6, 0, 0),
-        Answer::NeverFits => Reply::of(8, 0, 0),
-    }
+    let told = a.told();
+    Reply::of(told.number, told.value, told.compared)
 }
 
 // An answer in numbers, with the record after the call.
