@@ -11,7 +11,7 @@ use heap::Record;
 // An answer as document 01's numbers.
 #[repr(C)]
 pub struct Reply {
-    // 0 done, 1 zero size, 2 too large, 3 no fit, 4 not live, 5 damaged, 6 bad length or room too short
+    // 0 done, 1 zero size, 2 too large, 3 no fit, 4 not live, 5 damaged, 6 bad length or room too short, 7 bad line of a map, 8 never fits
     pub number: u32,
     // the payload's offset if a handout is done, the number of lines if a map is, else 0
     pub value: u32,

@@ -42,7 +42,7 @@ numbersOf n v c = record { number = n; value = v; compared = c }
 
 -- an answer's
 abbrev pub toldOf : Answer → Told
-toldOf a = numbersOf (number a) (value a) (compared a)
+toldOf a = record { number = number a; value = value a; compared = compared a }
 
 -- an answer and the state after the call, as the rules' outcome
 abbrev pub outcome : Answer → State → Outcome State

@@ -19,7 +19,7 @@ use words::ByteOffset;
 
 // What a line is answered, and the record after it.
 pub struct Reply {
-    // document 01's answer number, 0 to 7
+    // document 01's answer number, 0 to 8
     pub number: u8,
     // the payload's offset for a handout, 0 otherwise
     pub value: u32,
