@@ -1,4 +1,4 @@
-"""The traces that the meter answers, and the calls that are counted, made on the host from the rules' model (oracle/model.py).
+"""The traces that the meter answers, and the calls that are counted, made on the host from the rules' model (judges/model/model.py).
 
     WHOLE      the whole run of the rules, with the lines that they give for it
     night      the requests of the tasks' night up to each of its maps, and the maps
@@ -19,9 +19,9 @@ import sys
 
 sys.dont_write_bytecode = True
 ROOT = os.path.join(os.path.dirname(os.path.abspath(__file__)), "..")
-sys.path[:0] = [os.path.join(ROOT, "oracle"), os.path.join(ROOT, "tests", "map")]
+sys.path.insert(0, os.path.join(ROOT, "judges", "model"))
 import model  # noqa: E402
-from compare import map_of  # noqa: E402
+from maps import map_of  # noqa: E402
 
 # the places of a record and its words that damage is done to, and what begins anew, by the numbers that the board reads
 PLACES = ("memory", "prev", "next", "words", "in_use", "committed", "peak", "high", "cached", "fresh", "lent", "reset")

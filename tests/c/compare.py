@@ -1,4 +1,4 @@
-"""Histories and damage, answered by tests/c/trace.c through the door and by oracle/model.py, and compared line by line.
+"""Histories and damage, answered by tests/c/trace.c through the door and by judges/model/model.py, and compared line by line.
 
     python3 tests/c/compare.py TRACE [HISTORIES]
 
@@ -12,10 +12,10 @@ import sys
 from pathlib import Path
 
 ROOT = Path(__file__).resolve().parents[2]
-sys.path[:0] = [str(ROOT / "oracle"), str(ROOT / "tests" / "map")]
+sys.path.insert(0, str(ROOT / "judges" / "model"))
 import histories
 import model
-from compare import map_of  # the map of the model's heap: tests/map/compare.py
+from maps import map_of
 
 FIELDS = ("words", "in_use", "committed", "peak", "high", "fresh")
 STORED = 4  # cache places of the record

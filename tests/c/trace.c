@@ -1,5 +1,5 @@
 /*
- * The trace frames of document 01, answered through the door, to be compared with oracle/model.py line by line.
+ * The trace frames of document 01, answered through the door, to be compared with judges/model/model.py line by line.
  *
  *     trace [--one] [--words N] [--fill SEED] [--marks STACKLETS] < lines
  *

@@ -2,8 +2,8 @@
 
     python3 tests/map/compare.py [MAPS]
 
-`chart` is run on histories, cut at many places, and its map is compared with the layout that oracle/model.py has there. `inspect` is run
-on those maps and on MAPS spoiled ones, and its answer is compared with `first_bad` below, which goes by one regular expression and by
+`chart` is run on histories, cut at many places, and its map is compared with the layout that judges/model/model.py has there. `inspect` is run
+on those maps and on MAPS spoiled ones, and its answer is compared with `first_bad` of judges/model/maps.py, which goes by one regular expression and by
 sums of lengths. The drawing's own reading (tools/heapmap) has to agree with both, and of every third map table, bar and picture are checked.
 The largest request that a map's sheet says is served is compared with the model's heap, for every size on random heaps.
 """
@@ -13,22 +13,18 @@ import copy
 import importlib.machinery
 import importlib.util
 import random
-import re
 import subprocess
 import sys
 import xml.etree.ElementTree as xml
-from itertools import accumulate
 from pathlib import Path
 
 ROOT = Path(__file__).resolve().parents[2]
-sys.path.insert(0, str(ROOT / "oracle"))
+sys.path.insert(0, str(ROOT / "judges" / "model"))
 import histories  # noqa: E402
 import model  # noqa: E402
+from maps import LINE, NO_MAP, PLACES, first_bad, lines_of, map_of  # noqa: E402
 
-PLACES = 4  # cache places of the programs
 SEED = 20240201
-NO_MAP = b"050000000000000000\n"
-LINE = re.compile(rb"(1[012])([0-9A-F]{8})([0-9A-F]{8})\n")
 
 
 def load(path):
@@ -54,41 +50,6 @@ def ask(program, data):
     if run.returncode != 0:
         fail("%s ended with status %d on" % (program, run.returncode), data)
     return run.stdout
-
-
-# the map of a state, and which bytes are a map
-
-
-def map_of(heap):
-    """The map of the model's heap."""
-    if heap.record.words == 0:
-        return NO_MAP
-    lines = []
-    for chunk in heap.chunks():
-        cached = chunk.link in heap.record.cached
-        lines.append(b"%02X%08X%08X\n" % (0x12 if cached else 0x11 if chunk.used else 0x10, 4 * chunk.w, chunk.length))
-    return b"".join(lines)
-
-
-def lines_of(data):
-    """The lines of some bytes, each with its line feed; the last may have none."""
-    return re.findall(rb"[^\n]*\n|[^\n]+\Z", data)
-
-
-def first_bad(data):
-    """The number of the first line that is malformed or cannot follow, or 0. A line's number counts the line feeds before it."""
-    lines = lines_of(data)
-    read = [LINE.fullmatch(line) for line in lines]
-    good = next((k for k, row in enumerate(read) if row is None), len(read))
-    kinds = [row[1] for row in read[:good]]
-    at, lengths = ([int(row[field], 16) for row in read[:good]] for field in (2, 3))
-    ends = list(accumulate(lengths, initial=0))
-    bad = [good + 1] if good < len(read) or not lines else []
-    bad += [k + 1 for k in range(good) if at[k] != ends[k]]
-    bad += [k + 1 for k in range(good) if lengths[k] < 16 or lengths[k] % 8 or not model.accepted(ends[k + 1] // 4 + 1)]
-    bad += [k + 1 for k in range(1, good) if kinds[k - 1] == kinds[k] == b"10"]
-    bad += [k + 1 for k in range(good) if kinds[k] == b"12"][PLACES:]
-    return min(bad, default=0)
 
 
 def wanted_of(data):

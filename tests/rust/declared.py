@@ -23,8 +23,7 @@ FIELDS = {"rec": "record"}  # antt reserves the word record
 
 # The sources, and how many structs and functions each is to declare.
 SOURCES = {
-    "bindings/rust/src/door.rs": (["bindings/rust/src/door.rs"], 3, 14),
-    "oracle/compare-parts": (["oracle/compare-parts/door.rs", "oracle/compare-parts/port.rs"], 3, 12),
+    "bindings/rust": (["bindings/rust/src/record.rs", "bindings/rust/src/door.rs"], 3, 14),
     "crates/door": (["crates/heap/src/record.rt", "crates/door/src/reply.rt", "crates/door/src/lib.rt"], 3, 14),
 }
 
@@ -107,16 +106,21 @@ def check_crate(header):
         stop(PROGRAM, "bindings/rust/src/door.rs does not link each function by the header's name, in the header's order")
 
 
+def text_of(paths):
+    """The text of these files, one behind the other."""
+    return "\n".join((ROOT / path).read_text() for path in paths)
+
+
 def main():
     """Compare everything."""
     header, declarations = Header(), 0
     for name, (paths, structs, functions) in SOURCES.items():
-        said = compare("\n".join((ROOT / path).read_text() for path in paths), header, structs, functions)
+        said = compare(text_of(paths), header, structs, functions)
         if said:
             stop(PROGRAM, f"{name} declares something else than include/lischemur.h", *said.splitlines()[:8])
         declarations += structs + functions
-    paths, structs, functions = SOURCES["bindings/rust/src/door.rs"]
-    check_slips((ROOT / paths[0]).read_text(), header, (structs, functions))
+    paths, structs, functions = SOURCES["bindings/rust"]
+    check_slips(text_of(paths), header, (structs, functions))
     check_crate(header)
     print(f"{PROGRAM}: {declarations} declarations of Rust and Rattle are the header's, on 64 and on 32 bits")
 

@@ -7,7 +7,8 @@
 use core::marker::PhantomData;
 use core::ptr::NonNull;
 
-use crate::door::{self, Record, Reply};
+use crate::door;
+use crate::record::{Record, Reply};
 use crate::refusal::Refusal;
 
 /// A payload's place: bytes from the start of the heap's words.

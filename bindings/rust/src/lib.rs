@@ -34,7 +34,8 @@
 //! Every call audits the whole heap first, so its time grows with the heap's length.
 //!
 //! ```text
-//! door      the archive's functions and the types that cross
+//! record    the types that cross the door
+//! door      the archive's functions
 //! refusal   the answer numbers by name
 //! memory    words that start 4 mod 8
 //! heap      the calls
@@ -50,11 +51,13 @@ pub const VERSION: &str = env!("CARGO_PKG_VERSION");
 mod door;
 mod heap;
 mod memory;
+mod record;
 mod refusal;
 
-pub use door::{Record, LAYOUT};
+pub use door::LAYOUT;
 pub use heap::{map_room, Heap, Kind, Offset, MAP_LINE};
 #[cfg(target_has_atomic = "8")]
 pub use memory::StaticMemory;
 pub use memory::{accepted, served, words_for, Memory, LEAST_WORDS, MOST_WORDS};
+pub use record::Record;
 pub use refusal::{Refusal, MOST_SIZE};

@@ -11,7 +11,7 @@ use heap::Record;
 // An answer as document 01's numbers.
 #[repr(C)]
 pub struct Reply {
-    // 0 done, 1 zero size, 2 too large, 3 no fit, 4 not live, 5 damaged, 6 bad length or room too short
+    // 0 done, 1 zero size, 2 too large, 3 no fit, 4 not live, 5 damaged, 6 bad length or room too short, 7 bad line of a map, 8 never fits
     pub number: u32,
     // the payload's offset if a handout is done, the number of lines if a map is, else 0
     pub value: u32,
@@ -52,16 +52,8 @@ impl Reply {
 fn reply_of(a: Answer) -> Reply
     ensures { λ r. ⌜ r ≡ replyOf a ⌝ }
 {
-    match a {
-        Answer::Done(p, c) => Reply::of(0, p.0, c),
-        Answer::ZeroSize => Reply::of(1, 0, 0),
-        Answer::TooLarge => Reply::of(2, 0, 0),
-        Answer::NoFit(c) => Reply::of(3, 0, c),
-        Answer::NotLive => Reply::of(4, 0, 0),
-        Answer::Damaged => Reply::of(5, 0, 0),
-        Answer::BadLength => Reply::of(6, 0, 0),
-        Answer::NeverFits => Reply::of(8, 0, 0),
-    }
+    let told = a.told();
+    Reply::of(told.number, told.value, told.compared)
 }
 
 // An answer in numbers, with the record after the call.

@@ -52,7 +52,8 @@ use Rattle.cache.specs.Places.{cachedOf, usedPlaces, leftOut, choiceOf}
 use Rattle.cache.proofs.Laws.{Packed, packed, length-cached, set-last, turned, oldest-cached, choose-hit, choose-miss, listed-cached}
 use Rattle.rules.proofs.Steps.Store.{Edition}
 use Rattle.rules.proofs.Demands.Decide.{sound-more}
-use Rattle.rules.proofs.Demands.Follow.{Picked, choose-picked, walkedFit}
+use Rattle.rules.proofs.Demands.Cache.{Picked, choose-picked}
+use Rattle.rules.proofs.Demands.Shown.{walkedFit}
 use Rattle.words.proofs.Laws.Links.{narrow-lawful}
 use Rattle.rules.proofs.Demands.Editions.{edition, narrow-fits}
 use Rattle.rules.proofs.Demands.Bounds.{FoundFits, walked-fitᵇ, found-fitsᵇ, never-lostᵇ, nowhere-shortᵇ, CachedFits, cached-fitsᵇ, cached-heldᵇ, ReleaseFits, release-fitsᵇ, LiveFits, live-fitsᵇ, FiguresFit, figures-fitᵇ}

@@ -19,7 +19,7 @@ use Rattle.words.proofs.Laws.Numbers.{numbers-at, numbers-set}
 use Rattle.words.specs.Sizes.{classOf, startOf}
 use Rattle.rules.specs.Rules.Steps.{portion, unlink, link, setLeft, clearLeft, markFree, markUsed, returnExcess, takeChunk, leftFree, rightFree, merge, merged, releaseChunk, cleared, emptied}
 use Rattle.rules.specs.Rules.Search.{searchAll}
-use Rattle.rules.proofs.Demands.Follow.{walkedFit}
+use Rattle.rules.proofs.Demands.Shown.{walkedFit}
 use Rattle.rules.specs.Rules.Making.{State}
 use Rattle.heap.specs.declared.record.Record.{Record}
 use Rattle.heap.specs.Seen.{seen, base, withPrevs, withNexts, stored}

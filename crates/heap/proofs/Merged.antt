@@ -15,7 +15,7 @@ use Rattle.rules.specs.Rules.Search.{Found, nowhere, lost}
 use Rattle.rules.specs.Rules.Search as rule
 use Rattle.rules.specs.Rules.Calls.{Outcome, says, withoutCache, firstFit, took, fromMerged}
 use Rattle.rules.specs.Rules.Making.{State}
-use Rattle.rules.proofs.Demands.Follow.{walkedFit}
+use Rattle.rules.proofs.Demands.Shown.{walkedFit}
 use Rattle.rules.proofs.Demands.Bounds.{walked-fitᵇ, never-lostᵇ, nowhere-shortᵇ, figures-fitᵇ}
 use Rattle.rules.proofs.Demands.LetGo.{without-cache-soundᵇ, without-cache-done}
 use Rattle.steps.specs.Undone.{putBack}

@@ -10,6 +10,7 @@ use Rattle.rules.specs.Machine.Machine as rule
 use Rattle.rules.specs.Sound.Test.{soundᵇ}
 use Rattle.heap.specs.declared.calls.Answer.{Answer}
 use Rattle.heap.specs.declared.calls.Answer.the-variants.{Done, ZeroSize, TooLarge, NoFit, NotLive, Damaged, BadLength, NeverFits}
+use Rattle.heap.specs.declared.answer.Told.{Told}
 use Rattle.heap.specs.Seen.{base}
 
 -- of each case its number; what is returned, the payload's offset for a handout, 0 otherwise; and how many free chunks were compared with the rounded size
@@ -34,6 +35,14 @@ value a = said a .value
 -- how many were compared
 abbrev pub compared : Answer → ℕ
 compared a = said a .compared
+
+-- three numbers as the code has them
+abbrev pub numbersOf : ℕ → ℕ → ℕ → Told
+numbersOf n v c = record { number = n; value = v; compared = c }
+
+-- an answer's
+abbrev pub toldOf : Answer → Told
+toldOf a = record { number = number a; value = value a; compared = compared a }
 
 -- an answer and the state after the call, as the rules' outcome
 abbrev pub outcome : Answer → State → Outcome State

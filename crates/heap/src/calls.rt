@@ -21,7 +21,7 @@ use words::ByteOffset;
 use words::Link;
 use words::WordIndex;
 
-// What a call answers; specs/Answer.antt gives document 01's number, value and compared count of each case.
+// What a call answers; `told` (answer.rt) gives document 01's number, value and compared count of each case.
 pub enum Answer {
     // done: the payload's offset, 0 for making and taking back; and how many free chunks were compared
     Done(ByteOffset, u32),

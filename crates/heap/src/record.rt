@@ -7,7 +7,7 @@ ghost use Prim.Native.Nat.{_+_, _-_, _<_, _^_, max};
 ghost use lib.Dec.{ltb};
 ghost use Rattle.words.specs.Choice.{pick};
 ghost use Rattle.heap.specs.Seen.{emptyRecord, freshRecord, withCached, countedIn, countedOut, stored, withPrevs, withNexts};
-ghost use Rattle.heap.specs.Mark.{markOf};
+ghost use Rattle.heap.specs.Mark.{marked};
 use words::Link;
 
 #[repr(C)]
@@ -124,7 +124,7 @@ impl Record {
     // The mark of allocator/mod.rs: if high water has risen, high water less 108 bytes for each stacklet, and the flag is cleared. It never refuses:
     // any flag but 0 counts as on.
     pub fn mark(self, stacklets: u32) -> Marked
-        ensures { λ r. ⌜ r ≡ markOf self stacklets ⌝ }
+        ensures { λ r. ⌜ r ≡ marked (self .fresh) self stacklets ⌝ }
     {
         let fresh = self.fresh;
         if fresh == 0 {

@@ -23,7 +23,7 @@ use Rattle.rules.specs.Sound.Model.{Model}
 use Rattle.rules.specs.Sound.Sound.{Accepted, CacheRight, Shows}
 use Rattle.rules.specs.Sound.Test.{candidate}
 use Rattle.rules.proofs.Steps.Store.{Edition}
-use Rattle.rules.proofs.Demands.Follow.{listed-true, listed-false}
+use Rattle.rules.proofs.Demands.Cache.{listed-true, listed-false}
 use Rattle.rules.proofs.Demands.Decide.{shows-candidate, layout-unique}
 use Rattle.map.specs.declared.rows.Row.{Row}
 use Rattle.map.specs.Rows.{freeKind, liveKind, cachedKind}

@@ -9,4 +9,3 @@ pub mod Sums
 pub mod Facts
 pub mod LiveSums
 pub mod Fits
-pub mod Longest

@@ -5,7 +5,7 @@
 --     make-refused   a length that the rules refuse: nothing has changed
 --     make-done      a heap made of the first words
 --     good-by, bad-by      a frame, and a line that is none
---     tell-by        a call's answer by its numbers
+--     number-byte, tell-by     an answer's number fits a byte; its three numbers as a reply
 use mathlib.Core.Path.{_≡_, refl, sym, ap, _∙_}
 use mathlib.Core.Bool.{Bool, true, false}
 use mathlib.Core.List.{List, [], _∷_, _++_}
@@ -26,9 +26,11 @@ use Rattle.rules.specs.Rules.Making.{State, make, acceptedᵇ, fresh, empty}
 use Rattle.rules.specs.Demands.Meaning.{hand, back}
 use Rattle.heap.specs.declared.record.Record.{Record}
 use Rattle.heap.specs.declared.calls.Answer.{Answer}
+use Rattle.heap.specs.declared.calls.Answer.the-variants.{Done, ZeroSize, TooLarge, NoFit, NotLive, Damaged, BadLength, NeverFits}
+use Rattle.heap.specs.declared.answer.Told.{Told}
 use Rattle.heap.specs.declared.calls.Out.{Out}
 use Rattle.heap.specs.Seen.{seen, base}
-use Rattle.heap.specs.Answer.{outcome, number}
+use Rattle.heap.specs.Answer.{outcome, number, toldOf}
 use Rattle.heap.specs.Promises.{Makes, HandsOut, TakesBack}
 use Rattle.frame.specs.declared.line.Request.{Request}
 use Rattle.frame.specs.declared.line.Request.the-variants.{Make, HandOut, TakeBack}
@@ -183,6 +185,21 @@ bad-by places r ws t l h e = ap (λ (x : Reply). outcomeOf x ws) e ∙ sym (ap (
 
 -- ---- the reply
 
--- a reply that says an answer's numbers
-pub tell-by : (o : Out) (t : Reply) (a : Answer) → o .answer ≡ a → t ≡ replyOf (record { answer = a; rec = o .rec }) → t ≡ replyOf o
-tell-by o t a e f = f ∙ sym (ap (λ (x : Answer). replyOf (record { answer = x; rec = o .rec })) e)
+-- an answer's number fits a byte
+pub number-byte : (a : Answer) (t : Told) → t ≡ toldOf a → t .number < 256
+number-byte a t e = omega (arith, ap (λ (x : Told). x .number) e, few a)
+  where
+    few : (x : Answer) → number x < 256
+    few (Done p c) = omega arith
+    few ZeroSize = omega arith
+    few TooLarge = omega arith
+    few (NoFit c) = omega arith
+    few NotLive = omega arith
+    few Damaged = omega arith
+    few BadLength = omega arith
+    few NeverFits = omega arith
+
+-- a reply of what the answer tells
+pub tell-by : (o : Out) (t : Told) → t ≡ toldOf (o .answer)
+    → record { number = t .number; value = t .value; compared = t .compared; rec = o .rec } ≡ replyOf o
+tell-by o t e = ap (λ (x : Told). record { number = x .number; value = x .value; compared = x .compared; rec = o .rec }) e

@@ -12,7 +12,6 @@ ghost use Rattle.turn.specs.Turned.{turned, asked, making, lentOf};
 ghost use Rattle.turn.specs.Told.{outcomeOf, replyOf, refusal};
 use frame::Line;
 use frame::Request;
-use heap::Answer;
 use heap::Kind;
 use heap::Out;
 use heap::Record;
@@ -20,7 +19,7 @@ use words::ByteOffset;
 
 // What a line is answered, and the record after it.
 pub struct Reply {
-    // document 01's answer number, 0 to 7
+    // document 01's answer number, 0 to 8
     pub number: u8,
     // the payload's offset for a handout, 0 otherwise
     pub value: u32,
@@ -89,25 +88,13 @@ fn tell(out: Out) -> Reply
 {
     let answer = out.answer;
     let rec = out.rec;
-    match answer {
-        Answer::Done(payload, compared) => Reply {
-            number: 0,
-            value: payload.0,
-            compared,
-            rec,
-        },
-        Answer::ZeroSize => refuse(rec, 1),
-        Answer::TooLarge => refuse(rec, 2),
-        Answer::NoFit(compared) => Reply {
-            number: 3,
-            value: 0,
-            compared,
-            rec,
-        },
-        Answer::NotLive => refuse(rec, 4),
-        Answer::Damaged => refuse(rec, 5),
-        Answer::BadLength => refuse(rec, 6),
-        Answer::NeverFits => refuse(rec, 8),
+    let told = answer.told();
+    let number = told.number as u8;
+    Reply {
+        number,
+        value: told.value,
+        compared: told.compared,
+        rec,
     }
 }
 

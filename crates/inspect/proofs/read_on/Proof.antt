@@ -41,12 +41,4 @@ returns c =
 pub read-on-spec : {M : Type 1} → statement M
 read-on-spec =
     tie.close
-    (tie.spec
-    sub-rest
-    part-rest-start
-    part-rest-end
-    read-requires
-    count-requires
-    add-t8
-    same-length
-    returns)
+    (tie.spec sub-rest part-rest-start part-rest-end read-requires count-requires add-t8 same-length returns)

@@ -48,17 +48,5 @@ returns-2 c = search needs
 pub put-words-spec : {M : Type 1} → statement M
 put-words-spec =
     tie.close
-    (tie.spec
-    Inv-loop
-    μ-loop
-    loop-holds
-    mul-put-number
-    shared-slice-read-put-number
-    put-number-requires
-    add-k
-    loop-less
-    loop-again
-    same-length
-    returns
-    same-length-2
-    returns-2)
+    (tie.spec Inv-loop μ-loop loop-holds mul-put-number shared-slice-read-put-number put-number-requires add-k loop-less loop-again same-length returns
+    same-length-2 returns-2)

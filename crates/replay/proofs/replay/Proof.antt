@@ -97,23 +97,5 @@ returns-2 c = search needs
 pub replay-spec : {M : Type 1} → statement M
 replay-spec =
     tie.close
-    (tie.spec
-    Inv-loop
-    μ-loop
-    start-requires
-    loop-holds
-    next-requires
-    show-requires
-    write-requires
-    same-length
-    same-length-2
-    same-length-3
-    returns
-    loop-less
-    loop-again
-    loop-less-2
-    loop-again-2
-    same-length-4
-    same-length-5
-    same-length-6
-    returns-2)
+    (tie.spec Inv-loop μ-loop start-requires loop-holds next-requires show-requires write-requires same-length same-length-2 same-length-3 returns loop-less
+    loop-again loop-less-2 loop-again-2 same-length-4 same-length-5 same-length-6 returns-2)

@@ -21,7 +21,7 @@ use Rattle.rules.specs.Rules.Place.{lenAt, usedAt}
 use Rattle.rules.proofs.Tiling.Place.{free-at, len-at, used-at, used-skip}
 use Rattle.words.proofs.Laws.Sizes.{class-below, threshold-from}
 use Rattle.rules.proofs.Tiling.Fits.{none-fits, some-fits, few-compared, five-listed, Few}
-use Rattle.rules.proofs.Tiling.Longest.{none-before}
+use Rattle.rules.proofs.Demands.Longest.{none-before}
 use Rattle.rules.specs.Rules.Calls.{Figures, byteOf, nameOf, none, listed, withoutCache}
 use Rattle.rules.specs.Sound.Model.{Model}
 use Rattle.rules.specs.Machine.Machine.{sizeM, searched, searchM, withoutCacheM, handOutM, liveM, takeBackM}
@@ -29,7 +29,9 @@ use Rattle.rules.specs.Sound.Sound.{Shows, Sound}
 use Rattle.rules.specs.Sound.Test.{soundᵇ}
 use Rattle.rules.specs.Demands.Meaning.{NoFit, FromCache, Met, FromList, FromMerged, LiveAt, hand, back}
 use Rattle.rules.proofs.Steps.Store.{Edition}
-use Rattle.rules.proofs.Demands.Follow.{Follows, Picked, without-cache-shows, handOut-follows, takeBack-follows, live-is, listed-true}
+use Rattle.rules.proofs.Demands.Cache.{Picked, listed-true}
+use Rattle.rules.proofs.Demands.Released.{without-cache-shows}
+use Rattle.rules.proofs.Demands.Follow.{Follows, handOut-follows, takeBack-follows, live-is}
 use Rattle.rules.proofs.Demands.Cases.{hand-cases, serve-cases, back-cases, handM-cases, serveM-cases, backM-cases}
 use Rattle.rules.proofs.Demands.Decide.{sound-true, true-sound}
 

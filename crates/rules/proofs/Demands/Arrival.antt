@@ -31,8 +31,11 @@ use Rattle.rules.proofs.Tiling.Facts.{free-there}
 use Rattle.rules.proofs.Tiling.Place.{free-at, used-at}
 use Rattle.rules.proofs.Lists.Search.{find-fits, Fits}
 use Rattle.rules.proofs.Tiling.Named.{size-at, byte-at}
-use Rattle.rules.proofs.Demands.Follow.{L, whole, bytes, uncached, took, took-used, without-cache-shows, used-size, met-free, search-same, choose-cached}
-use Rattle.rules.proofs.Demands.Follow.{choose-picked, Picked, portion-least, r16, r8}
+use Rattle.rules.proofs.Demands.Shown.{L, whole, bytes, uncached, used-size, met-free, search-same, choose-cached}
+use Rattle.rules.proofs.Demands.Taken.{took, took-used}
+use Rattle.rules.proofs.Demands.Released.{without-cache-shows}
+use Rattle.rules.proofs.Demands.Cache.{choose-picked, Picked}
+use Rattle.rules.proofs.Demands.Numbers.{portion-least, r16, r8}
 use Rattle.rules.proofs.Demands.Decide.{sound-true, true-sound, layout-unique, figures-unique}
 use Rattle.rules.proofs.Demands.Cases.{hand-cases}
 use Rattle.rules.proofs.Demands.Answers.{hand-follows, used-there}

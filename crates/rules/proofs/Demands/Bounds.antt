@@ -41,7 +41,9 @@ use Rattle.rules.specs.Machine.Machine.{sizeM, searched}
 use Rattle.rules.specs.Sound.Sound.{Accepted, Shows}
 use Rattle.rules.specs.Sound.Test.{soundᵇ}
 use Rattle.rules.proofs.Steps.Store.{Edition}
-use Rattle.rules.proofs.Demands.Follow.{L, whole, few, walkedFit, walked-same, search-same, met-free, met-size, used-size, left-there, in-use-held, live-same, live-is, live-last}
+use Rattle.rules.proofs.Demands.Shown.{L, whole, few, walkedFit, walked-same, search-same, met-free, met-size, used-size, in-use-held}
+use Rattle.rules.proofs.Demands.Released.{left-there}
+use Rattle.rules.proofs.Demands.Follow.{live-same, live-is, live-last}
 use Rattle.rules.proofs.Tiling.LiveSums.{sum-has}
 use Rattle.rules.proofs.Demands.Decide.{sound-true}
 

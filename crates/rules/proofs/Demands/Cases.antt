@@ -18,7 +18,7 @@ use Rattle.rules.specs.Rules.Calls.{fromList, fromCache, serve, handOut,
 use Rattle.rules.specs.Sound.Model.{Model}
 use Rattle.rules.specs.Machine.Machine.{sizeM, tookM, searched, searchM, withoutCacheM, fromMergedM, fromListM, fromCacheM, handOutM, liveM, settledM}
 use Rattle.rules.specs.Machine.Machine.{takeBackM}
-use Rattle.rules.proofs.Demands.Follow.{choose-picked, Picked}
+use Rattle.rules.proofs.Demands.Cache.{choose-picked, Picked}
 
 module _ {S : Type 0} (op : Ops S Figures) (places : ℕ) (sound : S → Bool) (s : S) where
   -- HANDING OUT: 1, 2, 5, 8, or served

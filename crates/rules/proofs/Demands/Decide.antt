@@ -28,7 +28,8 @@ use Rattle.rules.specs.Rules.Calls.{Figures, byteOf, listed}
 use Rattle.rules.specs.Sound.Model.{Model}
 use Rattle.rules.specs.Sound.Sound.{Under, liveSum, CacheRight, FiguresRight, Shows, Sound}
 use Rattle.rules.proofs.Steps.Store.{Edition}
-use Rattle.rules.proofs.Demands.Follow.{whole, few, L, listed-true, listed-false}
+use Rattle.rules.proofs.Demands.Cache.{listed-true, listed-false}
+use Rattle.rules.proofs.Demands.Shown.{whole, few, L}
 
 -- a Boolean that says whether P holds
 pub record Tells (b : Bool) (P : Type 0) : Type 0 where

@@ -20,7 +20,7 @@ use Rattle.rules.proofs.Steps.Make.{made-whole}
 use Rattle.rules.specs.Rules.Calls.{Figures}
 use Rattle.rules.specs.Machine.Machine.{madeM}
 use Rattle.rules.specs.Sound.Sound.{Accepted, Shows}
-use Rattle.rules.proofs.Demands.Follow.{shown}
+use Rattle.rules.proofs.Demands.Shown.{shown}
 use Rattle.rules.specs.Rules.Making.{selves, fresh, acceptedᵇ}
 
 pos : (most n : ℕ) → Accepted most n → 0 < n

@@ -48,9 +48,15 @@ use Rattle.rules.proofs.Demands.LetGo.{place}
 use Rattle.rules.proofs.Demands.FreeRuns.{free-inside}
 use Rattle.rules.proofs.Tiling.Named.{size-at, byte-at}
 use Rattle.rules.proofs.Tiling.Facts.{used-len}
-use Rattle.rules.proofs.Demands.Follow.{whole, L, search-same, met-free, used-size, left-there, live-same, live-is, live-len, snoc-used, r16, r8}
-use Rattle.rules.proofs.Demands.Follow.{Picked, choose-picked, choose-cached, portion-least, portion-le, freeLast-le, letGoM, oldest, oldest-gone}
-use Rattle.rules.proofs.Demands.Follow.{without-cache-shows}
+use Rattle.rules.proofs.Demands.Numbers.{r16, r8}
+use Rattle.rules.proofs.Demands.Shown.{whole, L, search-same, met-free, used-size}
+use Rattle.rules.proofs.Demands.Released.{left-there}
+use Rattle.rules.proofs.Demands.Follow.{live-same, live-is, live-len, snoc-used}
+use Rattle.rules.proofs.Demands.Cache.{Picked, choose-picked}
+use Rattle.rules.proofs.Demands.Numbers.{portion-least, portion-le, freeLast-le}
+use Rattle.rules.proofs.Demands.Shown.{choose-cached}
+use Rattle.rules.proofs.Demands.Released.{letGoM, oldest, oldest-gone}
+use Rattle.rules.proofs.Demands.Released.{without-cache-shows}
 use Rattle.rules.proofs.Demands.Decide.{true-sound}
 use Rattle.rules.proofs.Demands.Answers.{slot-size, from-merged, used-there, hand-refused, back-refused, hand-sound, back-sound}
 use Rattle.rules.proofs.Demands.Runs.{payload-kept}

@@ -27,8 +27,8 @@ use Rattle.rules.proofs.Steps.Part.{legal-front, legal-back}
 use Rattle.rules.proofs.Tiling.Place.{free-at}
 use Rattle.rules.proofs.Tiling.Named.{byte-at}
 use Rattle.rules.proofs.Steps.Store.{Edition}
-use Rattle.rules.proofs.Tiling.Longest.{free-longest, longest-short}
-use Rattle.rules.proofs.Demands.Follow.{letGoM, oldest, oldest-gone}
+use Rattle.rules.proofs.Demands.Longest.{free-longest, longest-short}
+use Rattle.rules.proofs.Demands.Released.{letGoM, oldest, oldest-gone}
 use Rattle.rules.proofs.Demands.LetGo.{place}
 use Rattle.rules.proofs.Demands.Answers.{noFit-exact}
 

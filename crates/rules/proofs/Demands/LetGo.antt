@@ -1,4 +1,4 @@
--- EMPTYING THE CACHE, one chunk let go and all of them: sound (proofs/Demands/Follow.antt has that it shows what it is without memory), and nothing live changes.
+-- EMPTYING THE CACHE, one chunk let go and all of them: sound (proofs/Demands/Released.antt has that it shows what it is without memory), and nothing live changes.
 --     place, others-stay, none-there           what the layout is after one, and which used chunks it has
 --     let-go-figures, without-cache-figures    what tasks hold stays; committed falls to it, and nothing is cached
 --     without-cache-step, without-cache-done   emptying goes by letting one go after the other, until nothing is cached
@@ -39,7 +39,9 @@ use Rattle.rules.proofs.Steps.Live.{Payload}
 use Rattle.rules.specs.Sound.Sound.{Shows}
 use Rattle.rules.specs.Sound.Test.{soundᵇ}
 use Rattle.rules.proofs.Steps.Store.{Edition}
-use Rattle.rules.proofs.Demands.Follow.{letGoM, L, whole, used-size, used-same, in-use-held, left-there, oldest, oldest-gone, without-cache-shows, live-same}
+use Rattle.rules.proofs.Demands.Shown.{L, whole, used-size, used-same, in-use-held}
+use Rattle.rules.proofs.Demands.Released.{letGoM, left-there, oldest, oldest-gone, without-cache-shows}
+use Rattle.rules.proofs.Demands.Follow.{live-same}
 use Rattle.rules.proofs.Tiling.LiveSums.{heldSum}
 use Rattle.rules.proofs.Demands.Decide.{sound-true, true-sound}
 

@@ -38,7 +38,11 @@ use Rattle.rules.specs.Sound.Test.{soundᵇ}
 use Rattle.rules.specs.Demands.Meaning.{hand, back}
 use Rattle.rules.specs.Demands.Lives.{liveAt, HandedOut, TakenBack, Inside, Apart, Lives}
 use Rattle.rules.proofs.Demands.Answers.{hand-follows, back-follows}
-use Rattle.rules.proofs.Demands.Follow.{Picked, choose-picked, without-cache-shows, met-free, live-same, live-is, live-len, snoc-used, r16, listed-true, listed-false}
+use Rattle.rules.proofs.Demands.Cache.{Picked, choose-picked, listed-true, listed-false}
+use Rattle.rules.proofs.Demands.Numbers.{r16}
+use Rattle.rules.proofs.Demands.Shown.{met-free}
+use Rattle.rules.proofs.Demands.Released.{without-cache-shows}
+use Rattle.rules.proofs.Demands.Follow.{live-same, live-is, live-len, snoc-used}
 use Rattle.rules.proofs.Demands.LetGo.{without-cache-figures, empty-cache-live}
 use Rattle.rules.proofs.Demands.Cases.{hand-cases, back-cases, handM-cases, backM-cases}
 use Rattle.rules.proofs.Demands.Decide.{sound-true}

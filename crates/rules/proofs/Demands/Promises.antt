@@ -27,7 +27,9 @@ use Rattle.rules.specs.Demands.Lives.{liveAt}
 use Rattle.rules.specs.Demands.Promises.{AsTheMachine, RunAsTheMachine, Never, Unfit, ServedExactly, EightExactly, ThreeExactly, FiveExactly, TakenExactly, FourExactly, FewCompared}
 use Rattle.rules.specs.Demands.Promises.{CountedUp, HandedFigures, TakenFigures, Promises}
 use Rattle.rules.proofs.Steps.Store.{Edition}
-use Rattle.rules.proofs.Demands.Follow.{live-last, used-same, without-cache-shows}
+use Rattle.rules.proofs.Demands.Shown.{used-same}
+use Rattle.rules.proofs.Demands.Released.{without-cache-shows}
+use Rattle.rules.proofs.Demands.Follow.{live-last}
 use Rattle.rules.proofs.Demands.Cases.{hand-cases, back-cases, handM-cases, serveM-cases, backM-cases}
 use Rattle.rules.proofs.Demands.Decide.{sound-true, layout-unique}
 use Rattle.rules.proofs.Demands.Answers.{hand-follows, back-follows, hand-fine, back-fine, hand-damaged, back-damaged, noFit-exact, compared-small}

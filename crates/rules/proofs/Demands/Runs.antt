@@ -41,8 +41,13 @@ use Rattle.rules.specs.Sound.Model.{Model}
 use Rattle.rules.specs.Machine.Machine.{Request, ask, give, Answer, answerOf, callM, sizeM, searched, searchM, withoutCacheM, liveM, gaveM, settledM, takeBackM, madeM, stepsM, repliesM}
 use Rattle.rules.specs.Sound.Sound.{Accepted, Shows}
 use Rattle.rules.proofs.Steps.Store.{Edition}
-use Rattle.rules.proofs.Demands.Follow.{Follows, shown, whole, L, without-cache-shows, search-same, met-free, used-size, live-same, snoc-used, r16, r8}
-use Rattle.rules.proofs.Demands.Follow.{Picked, choose-picked, choose-cached, portion-least, portion-le}
+use Rattle.rules.proofs.Demands.Numbers.{r16, r8}
+use Rattle.rules.proofs.Demands.Shown.{shown, whole, L, search-same, met-free, used-size}
+use Rattle.rules.proofs.Demands.Released.{without-cache-shows}
+use Rattle.rules.proofs.Demands.Follow.{Follows, live-same, snoc-used}
+use Rattle.rules.proofs.Demands.Cache.{Picked, choose-picked}
+use Rattle.rules.proofs.Demands.Numbers.{portion-least, portion-le}
+use Rattle.rules.proofs.Demands.Shown.{choose-cached}
 use Rattle.rules.proofs.Demands.Bounds.{cached-fits}
 use Rattle.rules.proofs.Demands.Decide.{true-sound, layout-unique}
 use Rattle.rules.specs.Sound.Test.{soundᵇ}

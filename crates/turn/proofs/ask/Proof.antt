@@ -91,26 +91,6 @@ returns-3 c =
 pub ask-spec : {M : Type 1} → statement M
 ask-spec =
     tie.close
-    (tie.spec
-    enum-known-request
-    make-requires
-    enum-known-request-2
-    lent-words-requires
-    sub-hand-out
-    part-hand-out-start
-    part-hand-out-end
-    hand-out-requires
-    tell-requires
-    enum-known-request-3
-    lent-words-requires-2
-    sub-take-back
-    part-take-back-start
-    part-take-back-end
-    take-back-requires
-    tell-requires-2
-    same-length
-    returns
-    same-length-2
-    returns-2
-    same-length-3
-    returns-3)
+    (tie.spec enum-known-request make-requires enum-known-request-2 lent-words-requires sub-hand-out part-hand-out-start part-hand-out-end hand-out-requires
+    tell-requires enum-known-request-3 lent-words-requires-2 sub-take-back part-take-back-start part-take-back-end take-back-requires tell-requires-2
+    same-length returns same-length-2 returns-2 same-length-3 returns-3)

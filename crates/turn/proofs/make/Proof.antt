@@ -55,16 +55,5 @@ returns-3 c =
 pub make-spec : {M : Type 1} → statement M
 make-spec =
     tie.close
-    (tie.spec
-    refuse-requires
-    returns
-    sub-make
-    part-make-start
-    part-make-end
-    make-requires
-    tell-requires
-    refuse-requires-2
-    same-length
-    returns-2
-    same-length-2
-    returns-3)
+    (tie.spec refuse-requires returns sub-make part-make-start part-make-end make-requires tell-requires refuse-requires-2 same-length returns-2
+    same-length-2 returns-3)

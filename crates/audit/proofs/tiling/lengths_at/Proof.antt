@@ -61,20 +61,5 @@ returns c =
 pub lengths-at-spec : {M : Type 1} → statement M
 lengths-at-spec =
     tie.close
-    (tie.spec
-    array-read-length-at
-    length-at-requires
-    array-read-length-at-2
-    length-at-requires-2
-    array-read-length-at-3
-    length-at-requires-3
-    array-read-length-at-4
-    length-at-requires-4
-    cast-result
-    cast-result-2
-    add-result
-    cast-result-3
-    add-result-2
-    cast-result-4
-    add-result-3
-    returns)
+    (tie.spec array-read-length-at length-at-requires array-read-length-at-2 length-at-requires-2 array-read-length-at-3 length-at-requires-3
+    array-read-length-at-4 length-at-requires-4 cast-result cast-result-2 add-result cast-result-3 add-result-2 cast-result-4 add-result-3 returns)

@@ -69,13 +69,4 @@ returns-3 c =
 pub make-over-spec : {M : Type 1} → statement M
 make-over-spec =
     tie.close
-    (tie.spec
-    in-numbers-requires
-    returns
-    accepted-requires
-    in-numbers-requires-2
-    returns-2
-    make-requires
-    in-numbers-requires-3
-    same-length
-    returns-3)
+    (tie.spec in-numbers-requires returns accepted-requires in-numbers-requires-2 returns-2 make-requires in-numbers-requires-3 same-length returns-3)

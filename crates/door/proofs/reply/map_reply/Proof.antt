@@ -51,18 +51,5 @@ returns-4 c = c .of4 .ensures ∙ sym (ap mapReply (c .before .before .a2 .given
 pub map-reply-spec : {M : Type 1} → statement M
 map-reply-spec =
     tie.close
-    (tie.spec
-    enum-known-a
-    cast-of
-    of-requires
-    enum-told
-    of-requires-2
-    enum-told-2
-    of-requires-3
-    enum-known-a-2
-    cast-of-2
-    of-requires-4
-    returns
-    returns-2
-    returns-3
-    returns-4)
+    (tie.spec enum-known-a cast-of of-requires enum-told of-requires-2 enum-told-2 of-requires-3 enum-known-a-2 cast-of-2 of-requires-4 returns returns-2
+    returns-3 returns-4)

@@ -49,14 +49,5 @@ returns-2 c =
 pub read-on-spec : {M : Type 1} → statement M
 read-on-spec =
     tie.close
-    (tie.spec
-    until-feed-requires
-    with-all-requires
-    returns
-    sub-frame-with
-    part-frame-with-start
-    part-frame-with-end
-    frame-with-requires
-    none-requires
-    add-t14
-    returns-2)
+    (tie.spec until-feed-requires with-all-requires returns sub-frame-with part-frame-with-start part-frame-with-end frame-with-requires none-requires
+    add-t14 returns-2)

@@ -49,13 +49,4 @@ returns-2 c = sym (c .before .loop .inv .0 ∙ ap (λ (n : ℕ). c .before .loop
 pub until-feed-spec : {M : Type 1} → statement M
 until-feed-spec =
     tie.close
-    (tie.spec
-    Inv-loop
-    μ-loop
-    loop-holds
-    shared-slice-read-if1
-    returns
-    add-k
-    loop-less
-    loop-again
-    returns-2)
+    (tie.spec Inv-loop μ-loop loop-holds shared-slice-read-if1 returns add-k loop-less loop-again returns-2)

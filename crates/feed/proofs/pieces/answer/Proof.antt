@@ -39,13 +39,5 @@ returns c =
 pub answer-spec : {M : Type 1} → statement M
 answer-spec =
     tie.close
-    (tie.spec
-    turn-requires
-    add-write-answer
-    sub-write-answer
-    part-write-answer-start
-    part-write-answer-end
-    write-answer-requires
-    same-length
-    same-length-2
+    (tie.spec turn-requires add-write-answer sub-write-answer part-write-answer-start part-write-answer-end write-answer-requires same-length same-length-2
     returns)

@@ -92,17 +92,5 @@ returns-2 c = (
 pub feed-spec : {M : Type 1} → statement M
 feed-spec =
     tie.close
-    (tie.spec
-    Inv-loop
-    μ-loop
-    loop-holds
-    sub-if2
-    one-line-requires
-    loop-less
-    loop-again
-    same-length
-    same-length-2
-    returns
-    same-length-3
-    same-length-4
+    (tie.spec Inv-loop μ-loop loop-holds sub-if2 one-line-requires loop-less loop-again same-length same-length-2 returns same-length-3 same-length-4
     returns-2)

@@ -79,15 +79,5 @@ returns-2 c =
 pub one-line-spec : {M : Type 1} → statement M
 one-line-spec =
     tie.close
-    (tie.spec
-    sub-read-on
-    part-read-on-start
-    part-read-on-end
-    read-on-requires
-    add-taken
-    answer-requires
-    add-t26
-    same-length
-    same-length-2
-    returns
+    (tie.spec sub-read-on part-read-on-start part-read-on-end read-on-requires add-taken answer-requires add-t26 same-length same-length-2 returns
     returns-2)

@@ -69,20 +69,6 @@ returns-2 c =
 pub write-answer-spec : {M : Type 1} → statement M
 write-answer-spec =
     tie.close
-    (tie.spec
-    returns
-    sub-write-field
-    part-write-field-start
-    part-write-field-end
-    write-field-requires
-    sub-write-field-2
-    part-write-field-start-2
-    part-write-field-end-2
-    write-field-requires-2
-    sub-write-field-3
-    part-write-field-start-3
-    part-write-field-end-3
-    write-field-requires-3
-    slice-write-out
-    same-length
-    returns-2)
+    (tie.spec returns sub-write-field part-write-field-start part-write-field-end write-field-requires sub-write-field-2 part-write-field-start-2
+    part-write-field-end-2 write-field-requires-2 sub-write-field-3 part-write-field-start-3 part-write-field-end-3 write-field-requires-3 slice-write-out
+    same-length returns-2)

@@ -63,17 +63,5 @@ returns-3 c = sym (c .before .loop .inv .0 ∙ field-end _ _ _ (c .loop-test .le
 pub read-field-spec : {M : Type 1} → statement M
 read-field-spec =
     tie.close
-    (tie.spec
-    Inv-loop
-    μ-loop
-    loop-holds
-    shared-slice-read-digit-of
-    digit-of-requires
-    returns
-    returns-2
-    mul-number
-    add-number
-    add-k
-    loop-less
-    loop-again
+    (tie.spec Inv-loop μ-loop loop-holds shared-slice-read-digit-of digit-of-requires returns returns-2 mul-number add-number add-k loop-less loop-again
     returns-3)

@@ -54,15 +54,4 @@ returns c = sym (c .before .loop .inv .0 ∙ write-end _ _ _ (c .loop-test .left
 pub write-field-spec : {M : Type 1} → statement M
 write-field-spec =
     tie.close
-    (tie.spec
-    Inv-loop
-    μ-loop
-    loop-holds
-    sub-k
-    cast-byte-of
-    byte-of-requires
-    slice-write-out
-    loop-less
-    loop-again
-    same-length
-    returns)
+    (tie.spec Inv-loop μ-loop loop-holds sub-k cast-byte-of byte-of-requires slice-write-out loop-less loop-again same-length returns)

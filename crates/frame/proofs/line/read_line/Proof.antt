@@ -67,21 +67,5 @@ returns-4 c =
 pub read-line-spec : {M : Type 1} → statement M
 read-line-spec =
     tie.close
-    (tie.spec
-    returns
-    sub-read-field
-    part-read-field-start
-    part-read-field-end
-    read-field-requires
-    enum-known-first
-    enum-told
-    returns-2
-    sub-read-field-2
-    part-read-field-start-2
-    part-read-field-end-2
-    read-field-requires-2
-    enum-known-second
-    enum-told-2
-    returns-3
-    request-of-requires
-    returns-4)
+    (tie.spec returns sub-read-field part-read-field-start part-read-field-end read-field-requires enum-known-first enum-told returns-2 sub-read-field-2
+    part-read-field-start-2 part-read-field-end-2 read-field-requires-2 enum-known-second enum-told-2 returns-3 request-of-requires returns-4)

@@ -97,21 +97,5 @@ returns-3 c = sym (c .before .loop .inv .0 ∙ tried-end _ _ _ (c .before .befor
 pub check-lines-spec : {M : Type 1} → statement M
 check-lines-spec =
     tie.close
-    (tie.spec
-    Inv-loop
-    μ-loop
-    loop-holds
-    line-at-requires
-    enum-known-line
-    enum-told
-    add-t11
-    returns
-    follows-requires
-    add-t12
-    returns-2
-    place-after-requires
-    add-i
-    add-n
-    loop-less
-    loop-again
-    returns-3)
+    (tie.spec Inv-loop μ-loop loop-holds line-at-requires enum-known-line enum-told add-t11 returns follows-requires add-t12 returns-2 place-after-requires
+    add-i add-n loop-less loop-again returns-3)

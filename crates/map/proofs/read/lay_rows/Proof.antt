@@ -106,29 +106,5 @@ returns-2 c = sym (c .before .loop .inv .0 ∙ laying-end _ _ _ _ _ (c .loop-tes
 pub lay-rows-spec : {M : Type 1} → statement M
 lay-rows-spec =
     tie.close
-    (tie.spec
-    Inv-loop
-    μ-loop
-    loop-holds
-    line-at-requires
-    enum-known-line
-    enum-told
-    same-length
-    returns
-    mul-room
-    mul-room-2
-    slice-write-room
-    mul-room-3
-    add-room
-    mul-room-4
-    slice-write-room-2
-    mul-room-5
-    add-room-2
-    mul-room-6
-    slice-write-room-3
-    add-i
-    add-k
-    loop-less
-    loop-again
-    same-length-2
-    returns-2)
+    (tie.spec Inv-loop μ-loop loop-holds line-at-requires enum-known-line enum-told same-length returns mul-room mul-room-2 slice-write-room mul-room-3
+    add-room mul-room-4 slice-write-room-2 mul-room-5 add-room-2 mul-room-6 slice-write-room-3 add-i add-k loop-less loop-again same-length-2 returns-2)

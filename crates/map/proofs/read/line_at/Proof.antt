@@ -36,13 +36,4 @@ returns-3 c = c .read-row .ensures ∙ row-part (c .before .before .before .befo
 pub line-at-spec : {M : Type 1} → statement M
 line-at-spec =
     tie.close
-    (tie.spec
-    returns
-    sub-if2
-    returns-2
-    add-read-row
-    sub-read-row
-    part-read-row-start
-    part-read-row-end
-    read-row-requires
-    returns-3)
+    (tie.spec returns sub-if2 returns-2 add-read-row sub-read-row part-read-row-start part-read-row-end read-row-requires returns-3)

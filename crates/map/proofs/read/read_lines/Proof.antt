@@ -48,13 +48,4 @@ returns-4 c =
 pub read-lines-spec : {M : Type 1} → statement M
 read-lines-spec =
     tie.close
-    (tie.spec
-    returns
-    check-lines-requires
-    enum-known-checked
-    enum-known-checked-2
-    returns-2
-    lay-rows-requires
-    returns-3
-    same-length
-    returns-4)
+    (tie.spec returns check-lines-requires enum-known-checked enum-known-checked-2 returns-2 lay-rows-requires returns-3 same-length returns-4)

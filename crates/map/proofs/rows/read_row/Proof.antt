@@ -101,29 +101,6 @@ returns-6 c =
 pub read-row-spec : {M : Type 1} → statement M
 read-row-spec =
     tie.close
-    (tie.spec
-    returns
-    shared-slice-read-if2
-    returns-2
-    sub-read-field
-    part-read-field-start
-    part-read-field-end
-    read-field-requires
-    enum-known-first
-    enum-told
-    returns-3
-    sub-read-field-2
-    part-read-field-start-2
-    part-read-field-end-2
-    read-field-requires-2
-    enum-known-second
-    enum-told-2
-    returns-4
-    sub-read-field-3
-    part-read-field-start-3
-    part-read-field-end-3
-    read-field-requires-3
-    enum-known-third
-    enum-told-3
-    returns-5
-    returns-6)
+    (tie.spec returns shared-slice-read-if2 returns-2 sub-read-field part-read-field-start part-read-field-end read-field-requires enum-known-first
+    enum-told returns-3 sub-read-field-2 part-read-field-start-2 part-read-field-end-2 read-field-requires-2 enum-known-second enum-told-2 returns-4
+    sub-read-field-3 part-read-field-start-3 part-read-field-end-3 read-field-requires-3 enum-known-third enum-told-3 returns-5 returns-6)

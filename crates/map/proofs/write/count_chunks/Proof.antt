@@ -66,16 +66,4 @@ returns-2 c =
 pub count-chunks-spec : {M : Type 1} → statement M
 count-chunks-spec =
     tie.close
-    (tie.spec
-    Inv-loop
-    μ-loop
-    loop-holds
-    cast-t8
-    get-hdr-chunk-size-requires
-    returns
-    add-e
-    add-n
-    sub-fuel
-    loop-less
-    loop-again
-    returns-2)
+    (tie.spec Inv-loop μ-loop loop-holds cast-t8 get-hdr-chunk-size-requires returns add-e add-n sub-fuel loop-less loop-again returns-2)

@@ -112,24 +112,5 @@ returns-2 c =
 pub write-lines-spec : {M : Type 1} → statement M
 write-lines-spec =
     tie.close
-    (tie.spec
-    Inv-loop
-    μ-loop
-    loop-holds
-    cast-write-answer
-    get-hdr-chunk-size-requires
-    same-length
-    returns
-    kind-at-requires
-    add-write-answer
-    sub-write-answer
-    part-write-answer-start
-    part-write-answer-end
-    write-answer-requires
-    add-e
-    add-i
-    sub-fuel
-    loop-less
-    loop-again
-    same-length-2
-    returns-2)
+    (tie.spec Inv-loop μ-loop loop-holds cast-write-answer get-hdr-chunk-size-requires same-length returns kind-at-requires add-write-answer
+    sub-write-answer part-write-answer-start part-write-answer-end write-answer-requires add-e add-i sub-fuel loop-less loop-again same-length-2 returns-2)

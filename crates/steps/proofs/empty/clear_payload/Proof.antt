@@ -70,20 +70,5 @@ returns-2 c =
 pub clear-payload-spec : {M : Type 1} → statement M
 clear-payload-spec =
     tie.close
-    (tie.spec
-    Inv-loop
-    μ-loop
-    returns
-    cast-smaller
-    sub-smaller
-    smaller-requires
-    add-end
-    add-i
-    loop-holds
-    mul-heap
-    slice-write-heap
-    add-i-2
-    loop-less
-    loop-again
-    same-length
-    returns-2)
+    (tie.spec Inv-loop μ-loop returns cast-smaller sub-smaller smaller-requires add-end add-i loop-holds mul-heap slice-write-heap add-i-2 loop-less
+    loop-again same-length returns-2)

@@ -93,19 +93,5 @@ returns-5 c = sym (c .before .loop .inv .0 ∙ used-out _ _ _ _ (c .loop-test .l
 pub used-length-spec : {M : Type 1} → statement M
 used-length-spec =
     tie.close
-    (tie.spec
-    Inv-loop
-    μ-loop
-    loop-holds
-    get-hdr-chunk-size-requires
-    returns
-    is-this-free-requires
-    returns-2
-    returns-3
-    returns-4
-    cast-e
-    add-e
-    sub-fuel
-    loop-less
-    loop-again
-    returns-5)
+    (tie.spec Inv-loop μ-loop loop-holds get-hdr-chunk-size-requires returns is-this-free-requires returns-2 returns-3 returns-4 cast-e add-e sub-fuel
+    loop-less loop-again returns-5)

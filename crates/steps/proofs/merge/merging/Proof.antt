@@ -48,14 +48,5 @@ returns c =
 pub merging-spec : {M : Type 1} → statement M
 merging-spec =
     tie.close
-    (tie.spec
-    link-to-hdr-requires
-    hdr-to-right-hdr-requires
-    left-free-requires
-    right-free-requires
-    hdr-to-left-hdr-requires
-    wrapping-add-u32-requires
-    wrapping-add-u32-requires-2
-    hdr-to-link-requires
-    hdr-to-link-requires-2
-    returns)
+    (tie.spec link-to-hdr-requires hdr-to-right-hdr-requires left-free-requires right-free-requires hdr-to-left-hdr-requires wrapping-add-u32-requires
+    wrapping-add-u32-requires-2 hdr-to-link-requires hdr-to-link-requires-2 returns)

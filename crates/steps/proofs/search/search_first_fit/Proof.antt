@@ -73,18 +73,5 @@ returns-3 c = sym (c .before .loop .inv .0 ∙ fit-out _ _ _ _ (omega arith))
 pub search-first-fit-spec : {M : Type 1} → statement M
 search-first-fit-spec =
     tie.close
-    (tie.spec
-    Inv-loop
-    μ-loop
-    start-index-requires
-    loop-holds
-    walk-list-requires
-    enum-known-found
-    returns
-    enum-known-found-2
-    enum-told
-    returns-2
-    add-class
-    loop-less
-    loop-again
-    returns-3)
+    (tie.spec Inv-loop μ-loop start-index-requires loop-holds walk-list-requires enum-known-found returns enum-known-found-2 enum-told returns-2 add-class
+    loop-less loop-again returns-3)

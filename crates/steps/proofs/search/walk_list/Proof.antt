@@ -63,17 +63,5 @@ returns-3 c = sym (c .before .before .loop .inv .0 ∙ walk-end _ _ _ _ _ _ _ (c
 pub walk-list-spec : {M : Type 1} → statement M
 walk-list-spec =
     tie.close
-    (tie.spec
-    Inv-loop
-    μ-loop
-    next-of-requires
-    loop-holds
-    returns
-    add-k
-    link-to-hdr-requires
-    get-hdr-chunk-size-requires
-    returns-2
-    next-of-requires-2
-    loop-less
-    loop-again
-    returns-3)
+    (tie.spec Inv-loop μ-loop next-of-requires loop-holds returns add-k link-to-hdr-requires get-hdr-chunk-size-requires returns-2 next-of-requires-2
+    loop-less loop-again returns-3)

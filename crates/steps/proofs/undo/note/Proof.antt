@@ -55,19 +55,5 @@ returns-3 c = note-named _ _ _ _ (c .before .before .if1 .left)
 pub note-spec : {M : Type 1} → statement M
 note-spec =
     tie.close
-    (tie.spec
-    returns
-    returns-2
-    cast-log
-    mul-log
-    mul-log-2
-    slice-write-log
-    mul-log-3
-    shared-slice-read-log
-    mul-log-4
-    add-log
-    mul-log-5
-    slice-write-log-2
-    add-result
-    same-length
-    returns-3)
+    (tie.spec returns returns-2 cast-log mul-log mul-log-2 slice-write-log mul-log-3 shared-slice-read-log mul-log-4 add-log mul-log-5 slice-write-log-2
+    add-result same-length returns-3)

@@ -37,11 +37,4 @@ returns c =
 pub note-tags-spec : {M : Type 1} → statement M
 note-tags-spec =
     tie.close
-    (tie.spec
-    note-requires
-    hdr-to-ftr-requires
-    note-requires-2
-    hdr-to-right-hdr-requires
-    note-requires-3
-    same-length
-    returns)
+    (tie.spec note-requires hdr-to-ftr-requires note-requires-2 hdr-to-right-hdr-requires note-requires-3 same-length returns)

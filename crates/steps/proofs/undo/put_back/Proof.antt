@@ -94,23 +94,5 @@ returns c =
 pub put-back-spec : {M : Type 1} → statement M
 put-back-spec =
     tie.close
-    (tie.spec
-    Inv-loop
-    μ-loop
-    held-requires
-    loop-holds
-    add-i
-    sub-j
-    mul-put
-    mul-put-2
-    shared-slice-read-put
-    cast-put
-    mul-put-3
-    add-put
-    mul-put-4
-    shared-slice-read-put-2
-    put-requires
-    loop-less
-    loop-again
-    same-length
-    returns)
+    (tie.spec Inv-loop μ-loop held-requires loop-holds add-i sub-j mul-put mul-put-2 shared-slice-read-put cast-put mul-put-3 add-put mul-put-4
+    shared-slice-read-put-2 put-requires loop-less loop-again same-length returns)

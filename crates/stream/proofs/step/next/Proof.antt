@@ -33,12 +33,4 @@ returns-2 c = record { piece = _; takes = c .before .before .before .before .tak
 pub next-spec : {M : Type 1} → statement M
 next-spec =
     tie.close
-    (tie.spec
-    ended-requires
-    returns
-    read-requires
-    take-in-requires
-    same-length
-    same-length-2
-    same-length-3
-    returns-2)
+    (tie.spec ended-requires returns read-requires take-in-requires same-length same-length-2 same-length-3 returns-2)

@@ -75,14 +75,4 @@ returns-3 c =
 pub take-in-spec : {M : Type 1} → statement M
 take-in-spec =
     tie.close
-    (tie.spec
-    count-requires
-    ended-requires
-    returns
-    ended-requires-2
-    returns-2
-    slice-aggregate-feed
-    feed-requires
-    same-length
-    same-length-2
-    returns-3)
+    (tie.spec count-requires ended-requires returns ended-requires-2 returns-2 slice-aggregate-feed feed-requires same-length same-length-2 returns-3)

@@ -80,18 +80,5 @@ returns c = search needs
 pub read-all-spec : {M : Type 1} → statement M
 read-all-spec =
     tie.close
-    (tie.spec
-    Inv-loop
-    μ-loop
-    start-requires
-    loop-holds
-    next-requires
-    write-requires
-    loop-less
-    loop-again
-    loop-less-2
-    loop-again-2
-    same-length
-    same-length-2
-    same-length-3
-    returns)
+    (tie.spec Inv-loop μ-loop start-requires loop-holds next-requires write-requires loop-less loop-again loop-less-2 loop-again-2 same-length same-length-2
+    same-length-3 returns)

@@ -49,16 +49,5 @@ returns-3 c =
 pub run-spec : {M : Type 1} → statement M
 run-spec =
     tie.close
-    (tie.spec
-    buffer-requires
-    slice-aggregate-read-all
-    slice-aggregate-read-all-2
-    read-all-requires
-    same-length
-    returns
-    slice-aggregate-finish
-    finish-requires
-    same-length-2
-    returns-2
-    same-length-3
-    returns-3)
+    (tie.spec buffer-requires slice-aggregate-read-all slice-aggregate-read-all-2 read-all-requires same-length returns slice-aggregate-finish
+    finish-requires same-length-2 returns-2 same-length-3 returns-3)

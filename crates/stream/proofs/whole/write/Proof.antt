@@ -32,12 +32,4 @@ returns-2 c = ended-writes _ _ _ _ (c .ended .ensures)
 pub write-spec : {M : Type 1} → statement M
 write-spec =
     tie.close
-    (tie.spec
-    sub-write-all
-    part-write-all-start
-    part-write-all-end
-    write-all-requires
-    add-r
-    returns
-    ended-requires
-    returns-2)
+    (tie.spec sub-write-all part-write-all-start part-write-all-end write-all-requires add-r returns ended-requires returns-2)

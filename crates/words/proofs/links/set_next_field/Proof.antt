@@ -36,12 +36,4 @@ returns c =
 pub set-next-field-spec : {M : Type 1} → statement M
 set-next-field-spec =
     tie.close
-    (tie.spec
-    link-word-requires
-    word-requires
-    cast-put
-    mul-put
-    add-put
-    put-requires
-    same-length
-    returns)
+    (tie.spec link-word-requires word-requires cast-put mul-put add-put put-requires same-length returns)

@@ -36,12 +36,4 @@ returns c =
 pub set-prev-field-spec : {M : Type 1} → statement M
 set-prev-field-spec =
     tie.close
-    (tie.spec
-    link-word-requires
-    word-requires
-    mul-put
-    cast-put
-    add-put
-    put-requires
-    same-length
-    returns)
+    (tie.spec link-word-requires word-requires mul-put cast-put add-put put-requires same-length returns)

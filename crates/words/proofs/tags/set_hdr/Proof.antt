@@ -35,13 +35,4 @@ returns c = search needs
 pub set-hdr-spec : {M : Type 1} → statement M
 set-hdr-spec =
     tie.close
-    (tie.spec
-    mul-put
-    cast-put
-    mul-put-2
-    add-put
-    cast-put-2
-    add-put-2
-    put-requires
-    same-length
-    returns)
+    (tie.spec mul-put cast-put mul-put-2 add-put cast-put-2 add-put-2 put-requires same-length returns)

@@ -33,10 +33,4 @@ returns-2 c =
 pub frame-spec : {M : Type 1} → statement M
 frame-spec =
     tie.close
-    (tie.spec
-    returns
-    sub-read-line
-    part-read-line-start
-    part-read-line-end
-    read-line-requires
-    returns-2)
+    (tie.spec returns sub-read-line part-read-line-start part-read-line-end read-line-requires returns-2)

@@ -49,14 +49,4 @@ returns-2 c = sym (c .before .loop .inv .0 ∙ keeps-end _ (c .before .before .b
 pub with-all-spec : {M : Type 1} → statement M
 with-all-spec =
     tie.close
-    (tie.spec
-    Inv-loop
-    μ-loop
-    loop-holds
-    shared-slice-read-with
-    with-requires
-    add-k
-    loop-less
-    loop-again
-    returns
-    returns-2)
+    (tie.spec Inv-loop μ-loop loop-holds shared-slice-read-with with-requires add-k loop-less loop-again returns returns-2)

@@ -39,12 +39,4 @@ returns-3 c =
 pub finish-spec : {M : Type 1} → statement M
 finish-spec =
     tie.close
-    (tie.spec
-    returns
-    returns-2
-    sub-write-answer
-    part-write-answer-start
-    part-write-answer-end
-    write-answer-requires
-    same-length
-    returns-3)
+    (tie.spec returns returns-2 sub-write-answer part-write-answer-start part-write-answer-end write-answer-requires same-length returns-3)

@@ -63,15 +63,4 @@ returns c =
 pub empty-cache-spec : {M : Type 1} → statement M
 empty-cache-spec =
     tie.close
-    (tie.spec
-    Inv-loop
-    μ-loop
-    used-places-requires
-    loop-holds
-    let-go-requires
-    add-i
-    loop-less
-    loop-again
-    same-length
-    same-length-2
-    returns)
+    (tie.spec Inv-loop μ-loop used-places-requires loop-holds let-go-requires add-i loop-less loop-again same-length same-length-2 returns)

@@ -48,12 +48,5 @@ returns c =
 pub free-listed-spec : {M : Type 1} → statement M
 free-listed-spec =
     tie.close
-    (tie.spec
-    set-free-chunk-hdr-ftr-requires
-    hdr-to-right-hdr-requires
-    set-left-free-requires
-    chunk-size-to-list-index-requires
-    hdr-to-link-requires
-    link-chunk-requires
-    same-length
-    returns)
+    (tie.spec set-free-chunk-hdr-ftr-requires hdr-to-right-hdr-requires set-left-free-requires chunk-size-to-list-index-requires hdr-to-link-requires
+    link-chunk-requires same-length returns)

@@ -59,16 +59,5 @@ returns c =
 pub free-noted-spec : {M : Type 1} → statement M
 free-noted-spec =
     tie.close
-    (tie.spec
-    chunk-size-to-list-index-requires
-    cast-class
-    mul-first
-    element-copy-out-first
-    note-tags-requires
-    note-link-requires
-    add-t16
-    note-requires
-    free-listed-requires
-    same-length
-    same-length-2
-    returns)
+    (tie.spec chunk-size-to-list-index-requires cast-class mul-first element-copy-out-first note-tags-requires note-link-requires add-t16 note-requires
+    free-listed-requires same-length same-length-2 returns)

@@ -85,17 +85,5 @@ returns-5 c =
 pub hand-out-spec : {M : Type 1} → statement M
 hand-out-spec =
     tie.close
-    (tie.spec
-    returns
-    returns-2
-    audit-requires
-    same-length
-    returns-3
-    rounded-size-requires
-    cast-z
-    never-requires
-    same-length-2
-    returns-4
-    serve-requires
-    same-length-3
-    returns-5)
+    (tie.spec returns returns-2 audit-requires same-length returns-3 rounded-size-requires cast-z never-requires same-length-2 returns-4 serve-requires
+    same-length-3 returns-5)

@@ -51,13 +51,5 @@ returns c =
 pub let-go-spec : {M : Type 1} → statement M
 let-go-spec =
     tie.close
-    (tie.spec
-    array-copy-out-old
-    link-to-hdr-requires
-    get-hdr-chunk-size-requires
-    release-noted-requires
-    left-out-requires
-    count-out-requires
-    same-length
-    same-length-2
-    returns)
+    (tie.spec array-copy-out-old link-to-hdr-requires get-hdr-chunk-size-requires release-noted-requires left-out-requires count-out-requires same-length
+    same-length-2 returns)

@@ -44,13 +44,5 @@ returns c =
 pub link-chunk-spec : {M : Type 1} → statement M
 link-chunk-spec =
     tie.close
-    (tie.spec
-    mul-next
-    element-copy-out-next
-    set-sentinel-next-requires
-    set-sentinel-prev-requires
-    set-chunk-prev-requires
-    set-next-field-requires
-    set-prev-field-requires
-    same-length
-    returns)
+    (tie.spec mul-next element-copy-out-next set-sentinel-next-requires set-sentinel-prev-requires set-chunk-prev-requires set-next-field-requires
+    set-prev-field-requires same-length returns)

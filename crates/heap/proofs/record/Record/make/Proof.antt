@@ -52,15 +52,5 @@ returns-4 c =
 pub make-spec : {M : Type 1} → statement M
 make-spec =
     tie.close
-    (tie.spec
-    empty-requires
-    returns
-    empty-requires-2
-    returns-2
-    empty-requires-3
-    returns-3
-    cast-of-words
-    of-words-requires
-    one-chunk-requires
-    same-length
+    (tie.spec empty-requires returns empty-requires-2 returns-2 empty-requires-3 returns-3 cast-of-words of-words-requires one-chunk-requires same-length
     returns-4)

@@ -58,16 +58,5 @@ returns-4 c =
 pub merge-neighbor-if-possible-spec : {M : Type 1} → statement M
 merge-neighbor-if-possible-spec =
     tie.close
-    (tie.spec
-    merge-case-requires
-    unlink-chunk-requires
-    unlink-chunk-requires-2
-    unlink-chunk-requires-3
-    unlink-chunk-requires-4
-    returns
-    same-length
-    returns-2
-    same-length-2
-    returns-3
-    same-length-3
-    returns-4)
+    (tie.spec merge-case-requires unlink-chunk-requires unlink-chunk-requires-2 unlink-chunk-requires-3 unlink-chunk-requires-4 returns same-length
+    returns-2 same-length-2 returns-3 same-length-3 returns-4)

@@ -50,13 +50,5 @@ returns c =
 pub one-chunk-spec : {M : Type 1} → statement M
 one-chunk-spec =
     tie.close
-    (tie.spec
-    sub-guard
-    mul-bytes
-    cast-bytes
-    set-free-chunk-hdr-ftr-requires
-    put-requires
-    chunk-size-to-list-index-requires
-    link-chunk-requires
-    same-length
+    (tie.spec sub-guard mul-bytes cast-bytes set-free-chunk-hdr-ftr-requires put-requires chunk-size-to-list-index-requires link-chunk-requires same-length
     returns)

@@ -35,9 +35,4 @@ returns c =
 pub release-chunk-spec : {M : Type 1} → statement M
 release-chunk-spec =
     tie.close
-    (tie.spec
-    merging-requires
-    merge-neighbor-if-possible-requires
-    free-listed-requires
-    same-length
-    returns)
+    (tie.spec merging-requires merge-neighbor-if-possible-requires free-listed-requires same-length returns)

@@ -70,11 +70,4 @@ returns c =
 pub release-noted-spec : {M : Type 1} → statement M
 release-noted-spec =
     tie.close
-    (tie.spec
-    merging-requires
-    unlink-noted-requires
-    unlink-noted-requires-2
-    free-noted-requires
-    same-length
-    same-length-2
-    returns)
+    (tie.spec merging-requires unlink-noted-requires unlink-noted-requires-2 free-noted-requires same-length same-length-2 returns)

@@ -77,16 +77,5 @@ returns-2 c =
 pub return-excess-to-free-list-spec : {M : Type 1} → statement M
 return-excess-to-free-list-spec =
     tie.close
-    (tie.spec
-    less-requires
-    hdr-to-right-hdr-requires
-    set-left-allocated-requires
-    same-length
-    returns
-    hdr-to-right-hdr-requires-2
-    set-free-chunk-hdr-ftr-requires
-    chunk-size-to-list-index-requires
-    hdr-to-link-requires
-    link-chunk-requires
-    same-length-2
-    returns-2)
+    (tie.spec less-requires hdr-to-right-hdr-requires set-left-allocated-requires same-length returns hdr-to-right-hdr-requires-2
+    set-free-chunk-hdr-ftr-requires chunk-size-to-list-index-requires hdr-to-link-requires link-chunk-requires same-length-2 returns-2)

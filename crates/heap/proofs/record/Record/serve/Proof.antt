@@ -90,19 +90,5 @@ returns-2 c =
 pub serve-spec : {M : Type 1} → statement M
 serve-spec =
     tie.close
-    (tie.spec
-    choice-requires
-    mul-link-to-hdr
-    array-copy-out-link-to-hdr
-    link-to-hdr-requires
-    get-hdr-chunk-size-requires
-    clear-payload-requires
-    add-held
-    left-out-requires
-    hdr-to-payload-requires
-    with-cached-requires
-    same-length
-    returns
-    serve-listed-requires
-    same-length-2
-    returns-2)
+    (tie.spec choice-requires mul-link-to-hdr array-copy-out-link-to-hdr link-to-hdr-requires get-hdr-chunk-size-requires clear-payload-requires add-held
+    left-out-requires hdr-to-payload-requires with-cached-requires same-length returns serve-listed-requires same-length-2 returns-2)

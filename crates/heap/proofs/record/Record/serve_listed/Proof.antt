@@ -118,18 +118,5 @@ returns-3 c =
 pub serve-listed-spec : {M : Type 1} → statement M
 serve-listed-spec =
     tie.close
-    (tie.spec
-    search-first-fit-requires
-    enum-told
-    enum-known-found
-    cast-serve-merged
-    serve-merged-requires
-    enum-known-found-2
-    cast-take-found
-    take-found-requires
-    same-length
-    returns
-    same-length-2
-    returns-2
-    same-length-3
-    returns-3)
+    (tie.spec search-first-fit-requires enum-told enum-known-found cast-serve-merged serve-merged-requires enum-known-found-2 cast-take-found
+    take-found-requires same-length returns same-length-2 returns-2 same-length-3 returns-3)

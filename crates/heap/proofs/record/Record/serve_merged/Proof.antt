@@ -188,28 +188,6 @@ returns-4 c =
 pub serve-merged-spec : {M : Type 1} → statement M
 serve-merged-spec =
     tie.close
-    (tie.spec
-    element-copy-out-if1
-    add-t19
-    returns
-    slice-aggregate-empty-cache
-    empty-cache-requires
-    search-first-fit-requires
-    enum-told
-    slice-aggregate-put-back
-    put-back-requires
-    enum-known-found
-    slice-aggregate-put-back-2
-    put-back-requires-2
-    cast-t39
-    add-t40
-    enum-known-found-2
-    cast-take-found
-    add-take-found
-    take-found-requires
-    same-length
-    returns-2
-    same-length-2
-    returns-3
-    same-length-3
-    returns-4)
+    (tie.spec element-copy-out-if1 add-t19 returns slice-aggregate-empty-cache empty-cache-requires search-first-fit-requires enum-told
+    slice-aggregate-put-back put-back-requires enum-known-found slice-aggregate-put-back-2 put-back-requires-2 cast-t39 add-t40 enum-known-found-2
+    cast-take-found add-take-found take-found-requires same-length returns-2 same-length-2 returns-3 same-length-3 returns-4)

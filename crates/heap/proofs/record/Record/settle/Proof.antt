@@ -83,18 +83,5 @@ returns-2 c =
 pub settle-spec : {M : Type 1} → statement M
 settle-spec =
     tie.close
-    (tie.spec
-    used-places-requires
-    put-last-requires
-    with-cached-requires
-    returns
-    array-copy-out-old
-    link-to-hdr-requires
-    get-hdr-chunk-size-requires
-    release-chunk-requires
-    left-out-requires
-    monus-requires
-    put-last-requires-2
-    count-out-requires
-    same-length
-    returns-2)
+    (tie.spec used-places-requires put-last-requires with-cached-requires returns array-copy-out-old link-to-hdr-requires get-hdr-chunk-size-requires
+    release-chunk-requires left-out-requires monus-requires put-last-requires-2 count-out-requires same-length returns-2)

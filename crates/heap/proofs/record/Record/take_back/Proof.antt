@@ -95,17 +95,5 @@ returns-3 c =
 pub take-back-spec : {M : Type 1} → statement M
 take-back-spec =
     tie.close
-    (tie.spec
-    audit-requires
-    same-length
-    returns
-    live-length-requires
-    same-length-2
-    returns-2
-    payload-to-hdr-requires
-    hdr-to-link-requires
-    less-requires
-    places-requires
-    settle-requires
-    same-length-3
-    returns-3)
+    (tie.spec audit-requires same-length returns live-length-requires same-length-2 returns-2 payload-to-hdr-requires hdr-to-link-requires less-requires
+    places-requires settle-requires same-length-3 returns-3)

@@ -37,11 +37,4 @@ returns c =
 pub take-chunk-spec : {M : Type 1} → statement M
 take-chunk-spec =
     tie.close
-    (tie.spec
-    link-to-hdr-requires
-    unlink-chunk-requires
-    portion-of-requires
-    set-hdr-requires
-    return-excess-to-free-list-requires
-    same-length
-    returns)
+    (tie.spec link-to-hdr-requires unlink-chunk-requires portion-of-requires set-hdr-requires return-excess-to-free-list-requires same-length returns)

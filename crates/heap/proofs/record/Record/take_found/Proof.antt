@@ -67,15 +67,5 @@ returns c =
 pub take-found-spec : {M : Type 1} → statement M
 take-found-spec =
     tie.close
-    (tie.spec
-    link-to-hdr-requires
-    get-hdr-chunk-size-requires
-    portion-of-requires
-    take-chunk-requires
-    clear-payload-requires
-    hdr-to-right-hdr-requires
-    hdr-to-offset-requires
-    count-in-requires
-    hdr-to-payload-requires
-    same-length
-    returns)
+    (tie.spec link-to-hdr-requires get-hdr-chunk-size-requires portion-of-requires take-chunk-requires clear-payload-requires hdr-to-right-hdr-requires
+    hdr-to-offset-requires count-in-requires hdr-to-payload-requires same-length returns)

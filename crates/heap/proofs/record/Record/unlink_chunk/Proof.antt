@@ -41,12 +41,5 @@ returns c =
 pub unlink-chunk-spec : {M : Type 1} → statement M
 unlink-chunk-spec =
     tie.close
-    (tie.spec
-    hdr-to-prev-hdr-requires
-    hdr-to-next-hdr-requires
-    set-sentinel-next-requires
-    set-chunk-next-requires
-    set-sentinel-prev-requires
-    set-chunk-prev-requires
-    same-length
-    returns)
+    (tie.spec hdr-to-prev-hdr-requires hdr-to-next-hdr-requires set-sentinel-next-requires set-chunk-next-requires set-sentinel-prev-requires
+    set-chunk-prev-requires same-length returns)

@@ -47,13 +47,5 @@ returns-2 c =
 pub unlink-noted-spec : {M : Type 1} → statement M
 unlink-noted-spec =
     tie.close
-    (tie.spec
-    returns
-    hdr-to-prev-hdr-requires
-    hdr-to-next-hdr-requires
-    note-link-requires
-    note-link-requires-2
-    unlink-chunk-requires
-    same-length
-    same-length-2
-    returns-2)
+    (tie.spec returns hdr-to-prev-hdr-requires hdr-to-next-hdr-requires note-link-requires note-link-requires-2 unlink-chunk-requires same-length
+    same-length-2 returns-2)
