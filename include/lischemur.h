@@ -204,8 +204,9 @@ typedef struct lischemur_marking {
 lischemur_reply lischemur_make(lischemur_record *record, uint32_t *heap, uint64_t heap_words, uint32_t words);
 
 /*
- * Hands out a payload of at least `size` bytes, or replies 1, 2, 5, 8 or 3, tested in that order. Every word of the payload is 0, up
- * to its chunk's end. 8 says that LISCHEMUR_SERVES(size) exceeds the heap's bytes less the guard's four, a cached chunk or not. Before it replies 3 it empties the cache: every cached chunk is released and merged with its free neighbours, and
+ * Hands out a payload of at least `size` bytes, or replies 1, 2, 5, 8 or 3, tested in that order. Every word of the payload
+ * is 0, up to its chunk's end. 8 says that LISCHEMUR_SERVES(size) exceeds the heap's bytes less the guard's four, whatever is
+ * cached. Before it replies 3 it empties the cache: every cached chunk is released and merged with its free neighbours, and
  * the lists are searched once more. If that does not help either, the cache and every word are as they were.
  */
 lischemur_reply lischemur_hand_out(lischemur_record *record, uint32_t *heap, uint64_t heap_words, uint32_t size);

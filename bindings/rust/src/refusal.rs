@@ -77,7 +77,7 @@ impl fmt::Display for Refusal {
             }
             Refusal::NoRoom => out.write_str("the map is longer than the room"),
             Refusal::NeverFits => {
-                out.write_str("no heap of this length can ever serve so many bytes")
+                out.write_str("no heap of this length can ever serve that many bytes")
             }
             Refusal::Unknown(number) => write!(out, "answer number {number} is unknown"),
         }
