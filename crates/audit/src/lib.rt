@@ -13,6 +13,8 @@
 // require fewer than 2^30 words.
 //
 // The contract is an equation with the rules' own test. In between stands `proofs/Sound.antt`: the same condition, in terms of words and counts.
+#![tactic(auto)]
+
 ghost use Rattle.std.specs.Prelude.{◌≡◌, Bool, true, ◌↔◌};
 ghost use Rattle.words.specs.Links.{narrow};
 ghost use Rattle.rules.specs.Rules.State.{ops};

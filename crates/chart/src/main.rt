@@ -3,6 +3,8 @@
 // Its memory is 16,383 words set to 0, and its heap has four cache places. Crate `stream` does the reading, crate `map` the map. No line is answered,
 // and a last line without its line feed does nothing. Where there is no map, as before a heap is made, one answer line says so: number 5, with value
 // and count 0. A read that fails ends the program with nothing written, since the rest of the input is not known.
+#![tactic(auto)]
+
 use heap::{Kind, Record};
 use map::Answer;
 

@@ -12,6 +12,8 @@
 //
 //     reply    an answer as document 01's three numbers
 //     plain    the calls by value that the doors go to
+#![tactic(auto)]
+
 ghost use Rattle.std.specs.Prelude.{◌≡◌};
 ghost use Rattle.words.specs.Choice.{bit};
 ghost use Rattle.rules.specs.Demands.Meaning.{hand, back};

@@ -6,6 +6,8 @@
 //
 // Any bytes and any numbers may be passed. Each contract is one equation with a definition of specs/; proofs/Frames.antt says that what
 // is written is read back, and that nothing else is accepted.
+#![tactic(auto)]
+
 mod answer;
 mod hex;
 mod line;

@@ -15,6 +15,8 @@
 //
 // Any record, any memory and any number may be passed to a public function. Its contract is one equation with a rule of crate `rules`, on
 // the record and words as `seen` (specs/Seen.antt) reads them.
+#![tactic(auto)]
+
 mod answer;
 mod calls;
 mod kind;

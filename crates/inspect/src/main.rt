@@ -6,6 +6,8 @@
 // The longest heap has 65,529 words, so 262,112 bytes before the guard, and a chunk has at least 16: a map has at most 16,382 lines, and of anything
 // else the first bad line is at most the next. The lines before it have nineteen bytes each, and its own first nineteen tell that it is bad. So the
 // first 16,383 times 19 bytes tell all, and what comes after them is not read. Three words for each of 16,382 chunks are room for every map.
+#![tactic(auto)]
+
 ghost use Rattle.std.specs.Prelude.{◌≡◌, true, ◌≤◌, ◌<◌, length};
 
 use heap::Kind;

@@ -9,6 +9,8 @@
 //
 // The contracts are equations with specs/Calls.antt; proofs/Maps.antt says that exactly the legal maps are read, and that writing and
 // reading undo each other.
+#![tactic(auto)]
+
 mod read;
 mod rows;
 mod write;

@@ -7,6 +7,8 @@
 // compares them byte by byte.
 //
 // Crate `stream` does the reading. A read is lent one byte, so that at most one line is answered before its state is written.
+#![tactic(auto)]
+
 use heap::{Kind, Record};
 use map::Answer;
 use stream::Stream;

@@ -10,6 +10,8 @@
 //     undo      noting words before they are overwritten, and putting them back
 //
 // A crate of its own below `heap`, so that a change of one of them is proved in seconds.
+#![tactic(auto)]
+
 mod empty;
 mod free;
 mod live;

@@ -5,6 +5,8 @@
 //
 // Any record, any memory and any line may be passed. The contract of `turn` is one equation with `turned` (specs/Turned.antt): it says
 // number, value and compared count of the answer, the record and every word of the memory.
+#![tactic(auto)]
+
 ghost use Rattle.std.specs.Prelude.{◌≡◌};
 ghost use Rattle.heap.specs.Seen.{seen};
 ghost use Rattle.heap.specs.Kind.{places_of};

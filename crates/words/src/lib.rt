@@ -7,6 +7,8 @@
 //     tags     header, flags and footer (the layout of a chunk is drawn there)
 //     links    prev and next, of a sentinel or of a chunk
 //     sizes    rounded size, class, threshold
+#![tactic(auto)]
+
 mod links;
 mod names;
 mod sizes;

@@ -7,15 +7,15 @@ ghost use Rattle.words.specs.Names.{links, offsets, payloads, held_name};
 
 // The name that free chunks call each other by; 16 bits.
 #[repr(C)]
-#[derive(Drop)]
+#[derive(Clone, Copy)]
 pub struct Link(pub u16);
 
 // The index of a word in the heap's slice.
-#[derive(Drop)]
+#[derive(Clone, Copy)]
 pub struct WordIndex(pub usize);
 
 // Bytes from the heap's start.
-#[derive(Drop)]
+#[derive(Clone, Copy)]
 pub struct ByteOffset(pub u32);
 
 // heap.rs: link_to_ptr.

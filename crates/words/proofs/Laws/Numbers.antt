@@ -1,6 +1,6 @@
 -- Laws of `specs/Numbers.antt`: reads and stores of an array of links are those of the list of its numbers. Assumes nothing.
 use Rattle.std.proofs.Common.{◌≡◌, ℕ, zero, suc, List, [], ◌∷◌, length, get_or, set, refl, ap}
-use lib.ListN.{get_or-map, length_map}
+use lib.ListN.{get_or-map, length-map}
 use Rattle.words.specs.declared.names.Link.{Link}
 use Rattle.words.specs.Numbers.{numbers}
 
@@ -16,4 +16,4 @@ numbers_set (l ∷ ls) (suc k) v = ap (λ (ns : List ℕ). l.0 ∷ ns) (numbers_
 
 -- there are as many numbers as links
 pub length_numbers : (ls : List Link) → length (numbers ls) ≡ length ls
-length_numbers ls = length_map ls (λ (l : Link). l.0)
+length_numbers ls = length-map ls (λ (l : Link). l.0)
