@@ -31,6 +31,7 @@ mem_after ys c m = Memᴰ.append_right ys (Memᴰ.tail m)
 
 -- what stands before a place stands at no later one
 pub before_after : (xs ys : List ℕ) (x : ℕ) → Distinct (xs ++ ys) → Mem x xs → Mem x ys → ⊥
+before_after [] ys x d h m = elim h [ ]
 before_after (y ∷ xs) ys x d (Memᴰ.head e) m = d.0 (Memᴰ.append_right xs (subst (λ (z : ℕ). Mem z ys) e m))
 before_after (y ∷ xs) ys x d (Memᴰ.tail n) m = before_after xs ys x d.1 n m
 
@@ -65,6 +66,7 @@ pub record Around (c : ℕ) (xs : List ℕ) : Type 0 where
   pub is : xs ≡ front ++ c ∷ back
 
 pub around : (c : ℕ) (xs : List ℕ) → Mem c xs → Around c xs
+around c [] h = elim h [ ]
 around c (x ∷ xs) (Memᴰ.head e) = record { front = []; back = xs; is = ap (λ (z : ℕ). z ∷ xs) (sym e) }
 around c (x ∷ xs) (Memᴰ.tail m) =
     let r = around c xs m in record { front = x ∷ r.front; back = r.back; is = ap (λ (t : List ℕ). x ∷ t) r.is }

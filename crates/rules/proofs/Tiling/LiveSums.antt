@@ -31,6 +31,7 @@ held_sum ks cs = sum_by (λ (k : ℕ). used_at cs (byte_of k)) ks
 
 -- a member's part of a sum
 pub sum_has : (f : ℕ → ℕ) (x : ℕ) (ks : List ℕ) → Mem x ks → f x ≤ sum_by f ks
+sum_has f x [] h = elim h [ ]
 sum_has f x (k ∷ ks) (Memᴰ.head e) = let q : f x ≡ f k = ap f e in omega arith
 sum_has f x (k ∷ ks) (Memᴰ.tail i) = let r = sum_has f x ks i in omega arith
 
