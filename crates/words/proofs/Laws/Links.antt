@@ -5,7 +5,7 @@
 --     set_link-by                                          reading a link word and storing what is put together sets the link
 --     node_store_same, -other, -side, node-set            the same of nodes, in the sentinels and the words
 --     length-set_sentinel, length-set_chunk, at-set_chunk
-use Rattle.std.proofs.Common.{◌≡◌, ℕ, ◌+◌, ◌-◌, ◌%◌, ◌<◌, ◌≤◌, ◌≢◌, List, length, get_or, set, refl, ap, ◌∙◌, arith, length-set, get_or-set_other, get_or-set_same, le-ltb, lt-ltb}
+use Rattle.std.proofs.Common.{◌≡◌, ℕ, ◌+◌, ◌-◌, ◌%◌, ◌<◌, ◌≤◌, ◌≢◌, List, length, set, refl, ap, ◌∙◌, arith, length-set, get_or-set_other, get_or-set_same, le-ltb, lt-ltb}
 use Rattle.words.specs.Tags.{at}
 use Rattle.words.specs.Links.{Side, prev, next, Width, half, with_half, word_after, narrow, wide, link_at, set_link_at, node_link, set_sentinel, set_chunk_link}
 use Rattle.words.proofs.Laws.Choice.{by_cases}
