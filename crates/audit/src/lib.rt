@@ -34,7 +34,7 @@ use windows::lists_right;
 use words::Link;
 
 // What a record holds besides its links, as the audit reads it.
-#[derive(Drop)]
+#[derive(Clone, Copy)]
 pub struct Figures {
     // The heap's length in words.
     pub words: u32,

@@ -8,7 +8,7 @@ use heap::{Answer, Mark, Out, Record};
 
 // An answer as document 01's numbers.
 #[repr(C)]
-#[derive(Drop)]
+#[derive(Clone, Copy)]
 pub struct Reply {
     // 0 done, 1 zero size, 2 too large, 3 no fit, 4 not live, 5 damaged, 6 bad length or room too short, 7 bad line of a map, 8 never fits
     pub number: u32,
@@ -19,7 +19,7 @@ pub struct Reply {
 }
 
 // A reply, and the record after the call.
-#[derive(Drop)]
+#[derive(Clone, Copy)]
 pub struct Replied {
     pub reply: Reply,
     pub rec: Record,
@@ -27,7 +27,7 @@ pub struct Replied {
 
 // What the mark says, and the record with its flag off.
 #[repr(C)]
-#[derive(Drop)]
+#[derive(Clone, Copy)]
 pub struct Marking {
     // high water less the stacks' share; 0 if nothing has changed
     pub mark: i64,

@@ -6,7 +6,7 @@ ghost use Rattle.frame.specs.Hex.{digit_of, byte_of, digits_of};
 ghost use Rattle.frame.specs.Field.{field_of};
 
 // What a field says: a number, or none if a byte is not a digit or the number does not fit in 32 bits.
-#[derive(Drop)]
+#[derive(Clone, Copy)]
 pub enum Field {
     Number(u32),
     NoNumber,

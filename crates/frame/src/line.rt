@@ -5,7 +5,7 @@ ghost use Rattle.frame.specs.Line.{request_of, line_of};
 use super::hex::{Field, read_field};
 
 // What a frame asks for: a heap of this many words, a payload of this many bytes, the payload at this offset to be taken back.
-#[derive(Drop)]
+#[derive(Clone, Copy)]
 pub enum Request {
     Make(u32),
     HandOut(u32),
@@ -13,7 +13,7 @@ pub enum Request {
 }
 
 // A line read: a frame with its request, or no frame.
-#[derive(Drop)]
+#[derive(Clone, Copy)]
 pub enum Line {
     Good(Request),
     Bad,

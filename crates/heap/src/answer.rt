@@ -7,7 +7,7 @@ ghost use Rattle.heap.specs.Answer.{numbers_of, told_of};
 use super::calls::Answer;
 
 // What an answer tells, in numbers.
-#[derive(Drop)]
+#[derive(Clone, Copy)]
 pub struct Told {
     // document 01's answer number
     pub number: u32,

@@ -17,7 +17,7 @@ use steps::Found;
 use words::{ByteOffset, Link, WordIndex};
 
 // What a call answers; `told` (answer.rt) gives document 01's number, value and compared count of each case.
-#[derive(Drop)]
+#[derive(Clone, Copy)]
 pub enum Answer {
     // done: the payload's offset, 0 for making and taking back; and how many free chunks were compared
     Done(ByteOffset, u32),
@@ -33,7 +33,7 @@ pub enum Answer {
 }
 
 // An answer, and the record after the call.
-#[derive(Drop)]
+#[derive(Clone, Copy)]
 pub struct Out {
     pub answer: Answer,
     pub rec: Record,

@@ -5,7 +5,7 @@
 ghost use Rattle.std.specs.Prelude.{◌≡◌};
 ghost use Rattle.heap.specs.Kind.{places_of};
 
-#[derive(Drop)]
+#[derive(Clone, Copy)]
 pub enum Kind {
     // one cache place, as heap.rs has
     One,

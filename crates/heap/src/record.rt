@@ -10,7 +10,7 @@ ghost use Rattle.heap.specs.Mark.{marked};
 use words::Link;
 
 #[repr(C)]
-#[derive(Drop)]
+#[derive(Clone, Copy)]
 pub struct Record {
     // the prev link of each list's sentinel: its last chunk, or the sentinel itself
     pub prev: [Link; 6],
@@ -33,14 +33,14 @@ pub struct Record {
 }
 
 // What the mark says: nothing new, or high water less the stacks' share.
-#[derive(Drop)]
+#[derive(Clone, Copy)]
 pub enum Mark {
     Unchanged,
     At(i64),
 }
 
 // The mark, and the record with its flag off.
-#[derive(Drop)]
+#[derive(Clone, Copy)]
 pub struct Marked {
     pub mark: Mark,
     pub rec: Record,

@@ -18,7 +18,7 @@ use super::record::Record;
 use words::{Link, WordIndex};
 
 // The record after a step, and how many notes the log has then.
-#[derive(Drop)]
+#[derive(Clone, Copy)]
 pub struct Noted {
     pub rec: Record,
     pub k: usize,

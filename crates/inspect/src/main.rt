@@ -14,7 +14,7 @@ use heap::Kind;
 use map::Answer;
 
 // What was read of the input.
-#[derive(Drop)]
+#[derive(Clone, Copy)]
 pub struct Whole {
     // how many bytes stand at the start of the text
     pub len: usize,

@@ -11,7 +11,7 @@ use super::rows::{Answer, Line, Place, Row, follows, read_row};
 use heap::Kind;
 
 // What trying the lines gives: how many rows they are, or the number of the first bad line, from 1.
-#[derive(Drop)]
+#[derive(Clone, Copy)]
 enum Checked {
     Rows(usize),
     Wrong(usize),

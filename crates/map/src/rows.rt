@@ -6,7 +6,7 @@ ghost use Rattle.map.specs.Reading.{row_in, standsᵇ, followsᵇ};
 use frame::Field;
 
 // What the map's calls answer: done, with the number of chunks; the heap is damaged; the room is too short; the first bad line, from 1.
-#[derive(Drop)]
+#[derive(Clone, Copy)]
 pub enum Answer {
     Done(usize),
     Damaged,
@@ -15,7 +15,7 @@ pub enum Answer {
 }
 
 // A chunk on the map: 16 free, 17 live, 18 cached; the byte of its header; its length in bytes.
-#[derive(Drop)]
+#[derive(Clone, Copy)]
 pub struct Row {
     pub kind: u32,
     pub at: u32,
@@ -23,14 +23,14 @@ pub struct Row {
 }
 
 // A line read: a row, or no row.
-#[derive(Drop)]
+#[derive(Clone, Copy)]
 pub(crate) enum Line {
     Good(Row),
     Bad,
 }
 
 // Where a reader stands: the byte where the next chunk begins, whether the last one is free, and how many were cached.
-#[derive(Drop)]
+#[derive(Clone, Copy)]
 pub(crate) struct Place {
     pub(crate) at: u32,
     pub(crate) free: bool,

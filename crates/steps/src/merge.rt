@@ -6,7 +6,7 @@ use super::free::{left_free, right_free};
 use words::{Link, WordIndex};
 
 // The merged chunk, and the neighbours that it is merged of.
-#[derive(Drop)]
+#[derive(Clone, Copy)]
 pub struct Merged {
     // where it begins: the chunk's own header, or its left neighbour's if that is free
     pub hdr: WordIndex,

@@ -10,7 +10,7 @@ ghost use Rattle.steps.specs.Found.{told, walk_in};
 use words::Link;
 
 // What a search finds: a chunk, or none, with how many were compared; or that the lists do not end.
-#[derive(Drop)]
+#[derive(Clone, Copy)]
 pub enum Found {
     At(Link, usize),
     Nothing(usize),

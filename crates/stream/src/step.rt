@@ -13,7 +13,7 @@ use heap::Kind;
 const MOST: usize = 970881267037344820;
 
 // Where a run stands.
-#[derive(Drop)]
+#[derive(Clone, Copy)]
 pub struct Stream {
     // the heap's record, and the line that has begun
     pub trace: Trace,

@@ -18,7 +18,7 @@ use heap::{Kind, Out, Record};
 use words::ByteOffset;
 
 // What a line is answered, and the record after it.
-#[derive(Drop)]
+#[derive(Clone, Copy)]
 pub struct Reply {
     // document 01's answer number, 0 to 8
     pub number: u8,
