@@ -50,7 +50,7 @@ undone_beyond log us zero j v h = refl
 undone_beyond log us (suc k) j v h =
     let first : get_or (set log j v) (2 * k) 0 ≡ get_or log (2 * k) 0 = get_or-set_other log j (2 * k) v 0 (λ e. omega arith) in
     let second : get_or (set log j v) (2 * k + 1) 0 ≡ get_or log (2 * k + 1) 0 = get_or-set_other log j (2 * k + 1) v 0 (λ e. omega arith) in
-    rw (first, second) (undone_beyond log _ k j v (omega arith))
+    rw (first, second) (undone_beyond log (set us (get_or log (2 * k) 0) (get_or log (2 * k + 1) 0)) k j v (omega arith))
 
 -- RESTORING places, in two runs; it keeps the length
 restored_append : (us ws ps qs : List ℕ) → restored us ws (qs ++ ps) ≡ restored (restored us ws qs) ws ps
