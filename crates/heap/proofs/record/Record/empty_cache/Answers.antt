@@ -1,16 +1,13 @@
 -- `heap::record::Record::empty_cache` meets its contract. Invariant: `Emptying`, that what is left to do comes to the same. A turn keeps
 -- it (`emptying_turn`). Measure: the turns left.
-use mathlib.Core.Path.{sym, ◌∙◌}
-use Prim.Native.Nat.{◌-◌}
-use lib.ListN.{length_map}
+use native.Mathlib.Omega.{arith}
 use Rattle.heap.specs.Seen.{FourPlaces}
 use Rattle.heap.proofs.Emptying.{emptying_none, emptying_used, emptying_room, emptying_turn, emptying_done}
 use Rattle.heap.proofs.record.Record.empty_cache.Goals as goal
 
 pub loop-i-init : goal.loop-i-init
 loop-i-init c =
-    let four : FourPlaces c.args.self =
-    sym (length_map c.args.self.cached _) ∙ c.well_formed.0.1.1.1.1.0.1.0.1 in
+    let four : FourPlaces c.args.self = omega (arith, c.well_formed) in
     emptying_none c.args.self _ _ _ c.requires.0 four c.used_places-n.ensures
     c.requires.1
 
@@ -28,8 +25,8 @@ loop-i-preserved c =
     emptying_turn _ c.loop-i.rec _ _ _ _ _ _ _
     c.loop-i.invariant _ _
     c.let_go-a.result c.loop-i-test.true
-    c.let_go-a.ensures c.let_go-a.auto.1.0
-    c.let_go-a.auto.1.1.0
+    c.let_go-a.ensures c.let_go-a.auto.heap
+    c.let_go-a.auto.log
 
 pub shape_of-heap : goal.shape_of-heap
 shape_of-heap c = c.loop-i.invariant.long

@@ -13,12 +13,12 @@ returns-then-size-gt-MOST_SIZE c = hand_large (places_of c.args.kind) c.args.sel
 pub returns-then-not-sound : goal.returns-then-not-sound
 returns-then-not-sound c =
     let tested = hand_damaged (places_of c.args.kind) c.args.self c.args.heap.now _ _ in
-    tested c.if-size-eq0.false c.if-size-eq0.false c.audit-sound.ensures c.if-not-sound.true
+    tested c.if-size-eq0.false c.if-size-gt-MOST_SIZE.false c.audit-sound.ensures c.if-not-sound.true
 
 pub returns-then-hopeless : goal.returns-then-hopeless
 returns-then-hopeless c =
     let tested = hand_never (places_of c.args.kind) c.args.self c.args.heap.now _ _ _ _ _ in
-    let passed = tested c.if-size-eq0.false c.if-size-eq0.false c.audit-sound.ensures c.if-not-sound.false in
+    let passed = tested c.if-size-eq0.false c.if-size-gt-MOST_SIZE.false c.audit-sound.ensures c.if-not-sound.false in
     passed c.rounded_size-z.ensures refl c.never-hopeless.ensures c.if-hopeless.true
 
 pub serve-requires : goal.serve-requires
@@ -29,5 +29,5 @@ serve-requires c =
 pub returns : goal.returns
 returns c =
     let tested = hand_served (places_of c.args.kind) c.args.self c.args.heap.now _ _ _ _ _ _ in
-    let passed = tested c.if-size-eq0.false c.if-size-eq0.false c.audit-sound.ensures c.if-not-sound.false in
+    let passed = tested c.if-size-eq0.false c.if-size-gt-MOST_SIZE.false c.audit-sound.ensures c.if-not-sound.false in
     passed c.rounded_size-z.ensures refl c.never-hopeless.ensures c.if-hopeless.false c.serve.ensures

@@ -14,5 +14,5 @@ returns-then-n-ne1 c = rw c.empty-then-n-ne1.ensures (make_even _ c.if-n-lt-LEAS
 
 pub returns : goal.returns
 returns c =
-    make_done c.of_words.result c.one_Chunk.result c.args.heap.now _ _ refl c.if-n-lt-LEAST_WORDS.false
-    c.if-n-gt-MOST_WORDS.false c.if-n-ne1.false c.of_words.ensures c.one_Chunk.ensures
+    make_done c.of_words.result c.one_chunk-rec.result c.args.heap.now _ _ refl c.if-n-lt-LEAST_WORDS.false
+    c.if-n-gt-MOST_WORDS.false c.if-n-ne1.false c.of_words.ensures c.one_chunk-rec.ensures

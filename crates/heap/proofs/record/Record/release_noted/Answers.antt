@@ -11,20 +11,20 @@ unlink_noted-a-requires c = ((release_room _ _ _ _ c.requires.0 c.merging-g.ensu
 
 pub unlink_noted-b-requires : goal.unlink_noted-b-requires
 unlink_noted-b-requires c =
-    let kept = c.unlink_noted-a.auto.1 in
-    let room = room_on 2 7 _ _ _ _ _ _ c.requires.1 kept.0 kept.1.0 c.unlink_noted-a.ensures.undoes in
+    let kept = c.unlink_noted-a.auto in
+    let room = room_on 2 7 _ _ _ _ _ _ c.requires.1 kept.heap kept.log c.unlink_noted-a.ensures.undoes in
     ((release_room _ _ _ _ c.requires.0 c.merging-g.ensures).2, room_within 7 2 _ _ _ (omega arith) room)
 
 pub free_noted-requires : goal.free_noted-requires
 free_noted-requires c =
-    let kept = c.unlink_noted-a.auto.1 in
-    let room = room_on 2 7 _ _ _ _ _ _ c.requires.1 kept.0 kept.1.0 c.unlink_noted-a.ensures.undoes in (
+    let kept = c.unlink_noted-a.auto in
+    let room = room_on 2 7 _ _ _ _ _ _ c.requires.1 kept.heap kept.log c.unlink_noted-a.ensures.undoes in (
       (release_room _ _ _ _ c.requires.0 c.merging-g.ensures).0,
-      room_on 2 5 _ _ _ _ _ _ room c.unlink_noted-b.auto.1.0 c.unlink_noted-b.auto.1.1.0 c.unlink_noted-b.ensures.undoes,
+      room_on 2 5 _ _ _ _ _ _ room c.unlink_noted-b.auto.heap c.unlink_noted-b.auto.log c.unlink_noted-b.ensures.undoes,
     )
 
 pub shape_of-heap : goal.shape_of-heap
-shape_of-heap c = c.free_noted.auto.1.0 ∙ c.unlink_noted-b.auto.1.0 ∙ c.unlink_noted-a.auto.1.0
+shape_of-heap c = c.free_noted.auto.heap ∙ c.unlink_noted-b.auto.heap ∙ c.unlink_noted-a.auto.heap
 
 pub returns : goal.returns
 returns c =

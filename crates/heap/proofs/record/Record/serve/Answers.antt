@@ -1,8 +1,8 @@
 -- `heap::record::Record::serve` meets its contract: the oldest cached chunk that serves, whole, its payload emptied, else what the lists give.
 use native.Mathlib.Omega.{arith}
-use mathlib.Core.Path.{refl, sym, ◌∙◌}
+use mathlib.Core.Path.{refl}
 use Prim.Native.Nat.{◌<◌, ◌^◌}
-use lib.ListN.{length_map}
+use native.Mathlib.Omega.{arith}
 use Rattle.heap.specs.Seen.{FourPlaces}
 use Rattle.heap.proofs.Answers.{served_safe, served_cached, served_listed}
 use Rattle.heap.proofs.record.Record.serve.Goals as goal
@@ -10,8 +10,7 @@ use Rattle.heap.proofs.record.Record.serve.Goals as goal
 pub overflow_add-held : goal.overflow_add-held
 overflow_add-held c =
     let self = c.args.self in
-    let held = c.well_formed.0.1.1.1.1.0.1.0.1 in
-    let four : FourPlaces c.args.self = sym (length_map c.args.self.cached _) ∙ held in
+    let four : FourPlaces c.args.self = omega (arith, c.well_formed) in
     let below : c.args.self.committed < 2 ^ 32 = omega (arith, c.well_formed) in
     let sum =
     served_safe self c.args.heap.now c.args.z _ c.requires four c.choice-k.ensures _ _ c.if-k-lt-PLACES.true below
@@ -21,16 +20,14 @@ overflow_add-held c =
 pub returns-then-k-lt-PLACES : goal.returns-then-k-lt-PLACES
 returns-then-k-lt-PLACES c =
     let self = c.args.self in
-    let held = c.well_formed.0.1.1.1.1.0.1.0.1 in
-    let four : FourPlaces c.args.self = sym (length_map c.args.self.cached _) ∙ held in
+    let four : FourPlaces c.args.self = omega (arith, c.well_formed) in
     served_cached self c.args.heap.now c.args.z _ c.requires four c.choice-k.ensures c.with_cached.result _
-    c.left_out_lem.result _ _ _ _ c.if-k-lt-PLACES.true c.link_to_hdr-hdr.ensures c.get_hdr_chunk_size-n.ensures
-    c.clear_payload.ensures refl c.hdr_to_payload.ensures c.left_out_lem.ensures c.with_cached.ensures
+    c.left_out-others.result _ _ _ _ c.if-k-lt-PLACES.true c.link_to_hdr-hdr.ensures c.get_hdr_chunk_size-n.ensures
+    c.clear_payload.ensures refl c.hdr_to_payload.ensures c.left_out-others.ensures c.with_cached.ensures
 
 pub returns : goal.returns
 returns c =
     let self = c.args.self in
-    let held = c.well_formed.0.1.1.1.1.0.1.0.1 in
-    let four : FourPlaces c.args.self = sym (length_map c.args.self.cached _) ∙ held in
+    let four : FourPlaces c.args.self = omega (arith, c.well_formed) in
     served_listed self c.args.heap.now c.args.z _ c.requires four c.choice-k.ensures _
     c.if-k-lt-PLACES.false c.serve_listed.ensures

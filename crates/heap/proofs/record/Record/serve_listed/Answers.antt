@@ -1,6 +1,7 @@
 -- `heap::record::Record::serve_listed` meets its contract: a law for each answer of the search; soundness keeps the counts in range.
 use mathlib.Core.Path.{refl}
 use native.Mathlib.Omega.{arith}
+use Rattle.steps.specs.declared.search.Found.TheVariants.{At, Nothing, Lost}
 use Rattle.heap.proofs.Joins.{met}
 use Rattle.heap.proofs.Answers.{nowhere_safe, found_few, missed, fitting, listed_lost, listed_nowhere, listed_found}
 use Rattle.heap.proofs.record.Record.serve_listed.Goals as goal
@@ -11,7 +12,7 @@ overflow_cast-c c =
     let ws = c.args.heap.now in
     let z = c.args.z in
     let h = c.requires in
-    let found = met self ws z _ _ c.search_first_fit-found.ensures c.found-1.given.1 in
+    let found = met self ws z (Nothing c.in-Nothing.c) _ c.in-Nothing.ensures refl in
     let few = nowhere_safe self ws z h _ found in
     record { fits = omega arith }
 
@@ -21,7 +22,7 @@ serve_merged-requires c =
     let ws = c.args.heap.now in
     let z = c.args.z in
     let h = c.requires in
-    let found = met self ws z _ _ c.search_first_fit-found.ensures c.found-1.given.1 in
+    let found = met self ws z (Nothing c.in-Nothing.c) _ c.in-Nothing.ensures refl in
     missed self ws z h _ _ refl found
 
 pub overflow_cast-c-in-At : goal.overflow_cast-c-in-At
@@ -30,7 +31,7 @@ overflow_cast-c-in-At c =
     let ws = c.args.heap.now in
     let z = c.args.z in
     let h = c.requires in
-    let found = met self ws z _ _ c.search_first_fit-found.ensures c.found-in-At-1.given.1 in
+    let found = met self ws z (At c.in-At.l c.in-At.c) _ c.in-At.ensures refl in
     let few = found_few self ws z h _ _ found in
     record { fits = omega arith }
 
@@ -40,7 +41,7 @@ take_found-requires c =
     let ws = c.args.heap.now in
     let z = c.args.z in
     let h = c.requires in
-    let found = met self ws z _ _ c.search_first_fit-found.ensures c.found-in-At-1.given.1 in
+    let found = met self ws z (At c.in-At.l c.in-At.c) _ c.in-At.ensures refl in
     fitting self ws z h _ _ found
 
 pub returns-in-Lost : goal.returns-in-Lost
@@ -49,7 +50,7 @@ returns-in-Lost c =
     let ws = c.args.heap.now in
     let z = c.args.z in
     let h = c.requires in
-    let found = met self ws z _ _ c.search_first_fit-found.ensures c.enum_told-1.given.1 in
+    let found = met self ws z Lost _ c.in-Lost.ensures refl in
     listed_lost self ws z h found
 
 pub returns-in-Nothing : goal.returns-in-Nothing
@@ -58,7 +59,7 @@ returns-in-Nothing c =
     let ws = c.args.heap.now in
     let z = c.args.z in
     let h = c.requires in
-    let found = met self ws z _ _ c.search_first_fit-found.ensures c.found-1.given.1 in
+    let found = met self ws z (Nothing c.in-Nothing.c) _ c.in-Nothing.ensures refl in
     listed_nowhere self ws z h _ _ _ refl found c.serve_merged.ensures
 
 pub returns-in-At : goal.returns-in-At
@@ -67,5 +68,5 @@ returns-in-At c =
     let ws = c.args.heap.now in
     let z = c.args.z in
     let h = c.requires in
-    let found = met self ws z _ _ c.search_first_fit-found.ensures c.found-in-At-1.given.1 in
+    let found = met self ws z (At c.in-At.l c.in-At.c) _ c.in-At.ensures refl in
     listed_found self ws z h _ _ _ _ refl found c.take_found.ensures

@@ -2,6 +2,7 @@
 -- is a law for each answer of the search.
 use mathlib.Core.Path.{refl}
 use native.Mathlib.Omega.{arith}
+use Rattle.steps.specs.declared.search.Found.TheVariants.{At, Nothing, Lost}
 use Rattle.heap.proofs.Joins.{met}
 use Rattle.heap.proofs.Answers.{nowhere_safe, found_few, fitting}
 use Rattle.heap.proofs.Merged.{missed_few, merged_none, emptied_served, merged_found, merged_nowhere, merged_lost}
@@ -28,7 +29,7 @@ overflow_cast-result c =
     let e = c.empty_cache-e.result in
     let u = c.empty_cache-e.ensures in
     let on = emptied_served self _ z _ h e _ _ _ u in
-    let found = met e.rec _ z _ _ c.search_first_fit-found.ensures c.found-1.given.1 in
+    let found = met e.rec _ z (Nothing c.in-Nothing.d) _ c.in-Nothing.ensures refl in
     let few = nowhere_safe e.rec _ z on _ found in
     record { fits = omega arith }
 
@@ -40,7 +41,7 @@ overflow_add-result-in-Nothing c =
     let e = c.empty_cache-e.result in
     let u = c.empty_cache-e.ensures in
     let on = emptied_served self _ z _ h e _ _ _ u in
-    let found = met e.rec _ z _ _ c.search_first_fit-found.ensures c.found-1.given.1 in
+    let found = met e.rec _ z (Nothing c.in-Nothing.d) _ c.in-Nothing.ensures refl in
     omega (arith, nowhere_safe e.rec _ z on _ found, missed_few self _ z _ h)
 
 pub overflow_cast-d : goal.overflow_cast-d
@@ -51,7 +52,7 @@ overflow_cast-d c =
     let e = c.empty_cache-e.result in
     let u = c.empty_cache-e.ensures in
     let on = emptied_served self _ z _ h e _ _ _ u in
-    let found = met e.rec _ z _ _ c.search_first_fit-found.ensures c.found-in-At-1.given.1 in
+    let found = met e.rec _ z (At c.in-At.l c.in-At.d) _ c.in-At.ensures refl in
     let few = found_few e.rec _ z on _ _ found in
     record { fits = omega arith }
 
@@ -63,7 +64,7 @@ overflow_add-c c =
     let e = c.empty_cache-e.result in
     let u = c.empty_cache-e.ensures in
     let on = emptied_served self _ z _ h e _ _ _ u in
-    let found = met e.rec _ z _ _ c.search_first_fit-found.ensures c.found-in-At-1.given.1 in
+    let found = met e.rec _ z (At c.in-At.l c.in-At.d) _ c.in-At.ensures refl in
     omega (arith, found_few e.rec _ z on _ _ found, missed_few self _ z _ h)
 
 pub take_found-requires : goal.take_found-requires
@@ -74,7 +75,7 @@ take_found-requires c =
     let e = c.empty_cache-e.result in
     let u = c.empty_cache-e.ensures in
     let on = emptied_served self _ z _ h e _ _ _ u in
-    let found = met e.rec _ z _ _ c.search_first_fit-found.ensures c.found-in-At-1.given.1 in
+    let found = met e.rec _ z (At c.in-At.l c.in-At.d) _ c.in-At.ensures refl in
     fitting e.rec _ z on _ _ found
 
 pub returns-in-Lost : goal.returns-in-Lost
@@ -84,7 +85,7 @@ returns-in-Lost c =
     let h = c.requires in
     let e = c.empty_cache-e.result in
     let u = c.empty_cache-e.ensures in
-    let found = met e.rec _ z _ _ c.search_first_fit-found.ensures c.enum_told-1.given.1 in
+    let found = met e.rec _ z Lost _ c.in-Lost.ensures refl in
     merged_lost self _ z _ h e _ _ _ u _ found
 
 pub returns-in-Nothing : goal.returns-in-Nothing
@@ -94,8 +95,8 @@ returns-in-Nothing c =
     let h = c.requires in
     let e = c.empty_cache-e.result in
     let u = c.empty_cache-e.ensures in
-    let found = met e.rec _ z _ _ c.search_first_fit-found.ensures c.found-1.given.1 in
-    merged_nowhere self _ z _ h e _ _ _ u _ _ _ c.empty_cache-e.auto.1.1.0 c.put_back-in-Nothing.ensures refl found
+    let found = met e.rec _ z (Nothing c.in-Nothing.d) _ c.in-Nothing.ensures refl in
+    merged_nowhere self _ z _ h e _ _ _ u _ _ _ c.empty_cache-e.auto.log c.put_back-in-Nothing.ensures refl found
 
 pub returns-in-At : goal.returns-in-At
 returns-in-At c =
@@ -104,5 +105,5 @@ returns-in-At c =
     let h = c.requires in
     let e = c.empty_cache-e.result in
     let u = c.empty_cache-e.ensures in
-    let found = met e.rec _ z _ _ c.search_first_fit-found.ensures c.found-in-At-1.given.1 in
+    let found = met e.rec _ z (At c.in-At.l c.in-At.d) _ c.in-At.ensures refl in
     merged_found self _ z _ h e _ _ _ u _ _ _ _ refl found c.take_found.ensures

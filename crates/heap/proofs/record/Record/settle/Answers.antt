@@ -1,6 +1,5 @@
 -- `heap::record::Record::settle` meets its contract: cached in a free place, or after the oldest one's release, whose sums soundness keeps in range.
-use mathlib.Core.Path.{sym, ◌∙◌}
-use lib.ListN.{length_map}
+use native.Mathlib.Omega.{arith}
 use Rattle.heap.specs.Seen.{FourPlaces}
 use Rattle.heap.proofs.Answers.{settled_first, settle_safe, settled_next}
 use Rattle.heap.proofs.record.Record.settle.Goals as goal
@@ -8,8 +7,7 @@ use Rattle.heap.proofs.record.Record.settle.Goals as goal
 pub returns-then-k-places : goal.returns-then-k-places
 returns-then-k-places c =
     let pre = c.requires in
-    let held = c.well_formed.0.1.1.1.1.0.1.0.1 in
-    let four : FourPlaces c.args.self = sym (length_map c.args.self.cached _) ∙ held in
+    let four : FourPlaces c.args.self = omega (arith, c.well_formed) in
     settled_first c.args.places c.args.self c.args.heap.now c.args.held c.args.l _ pre.0
     c.used_places-k.ensures c.with_cached.result c.put_last-more.result four pre.3 c.if-k-places.true pre.1
     c.put_last-more.ensures c.with_cached.ensures
@@ -26,6 +24,6 @@ returns c =
     let next =
     settled_next c.args.places c.args.self c.args.heap.now c.args.held c.args.l _ pre.0
     c.used_places-k.ensures c.if-k-places.false pre.2 c.release_chunk-a.result c.count_out.result _
-    c.put_last-newer.result c.left_out_lem.result _ _ _ pre.1 in
+    c.put_last-newer.result c.left_out-others.result _ _ _ pre.1 in
     next c.link_to_hdr.ensures c.get_hdr_chunk_size-n.ensures c.release_chunk-a.ensures
-    c.left_out_lem.ensures c.monus.ensures c.put_last-newer.ensures c.count_out.ensures
+    c.left_out-others.ensures c.monus.ensures c.put_last-newer.ensures c.count_out.ensures

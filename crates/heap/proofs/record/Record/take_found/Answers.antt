@@ -10,14 +10,14 @@ take_chunk-a-requires c =
 
 pub count_in-rec-requires : goal.count_in-rec-requires
 count_in-rec-requires c =
-    count_safe c.args.self c.args.heap.now c.args.z c.args.l.0 c.requires c.take_Chunk.result _ _
+    count_safe c.args.self c.args.heap.now c.args.z c.args.l.0 c.requires c.take_chunk-a.result _ _
     _ _ c.link_to_hdr-hdr.ensures c.get_hdr_chunk_size-n.ensures c.portion_of-m.ensures
-    c.take_Chunk.ensures
+    c.take_chunk-a.ensures
 
 pub returns : goal.returns
 returns c =
-    found_taken c.args.self c.args.heap.now c.args.z c.args.l.0 c.requires c.take_Chunk.result
+    found_taken c.args.self c.args.heap.now c.args.z c.args.l.0 c.requires c.take_chunk-a.result
     c.count_in-rec.result _ _ _ _ _ _ _ _ c.hdr_to_payload.result c.link_to_hdr-hdr.ensures
-    c.get_hdr_chunk_size-n.ensures c.portion_of-m.ensures c.take_Chunk.ensures
+    c.get_hdr_chunk_size-n.ensures c.portion_of-m.ensures c.take_chunk-a.ensures
     c.clear_payload.ensures c.hdr_to_right_hdr.ensures c.hdr_to_offset-end.ensures
     c.count_in-rec.ensures c.hdr_to_payload.ensures
