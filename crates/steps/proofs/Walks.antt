@@ -3,7 +3,7 @@
 --     compared_in, walk_bound                    no walk has compared more than the limit
 --     fit_out, fit_hit, fit_miss, fit_lost       one list of a search, by what the walk along it says
 --     search_bound                               no search has compared more than the limit
-use Rattle.std.proofs.Common.{◌≡◌, ℕ, zero, suc, ◌+◌, ◌-◌, ◌/◌, ◌<◌, ◌≤◌, Bool, true, false, eqb, leb, List, refl, add-one, arith, eq-eqb, ne_eqb, le-leb}
+use Rattle.std.proofs.Common.{◌≡◌, ℕ, zero, suc, ◌+◌, ◌-◌, ◌<◌, ◌≤◌, Bool, true, false, eqb, leb, List, refl, add-one, arith, eq-eqb, ne_eqb, le-leb}
 use borrow.Author.Tests.{lt-leb}
 use Rattle.words.specs.Choice.{pick}
 use Rattle.words.specs.Links.{narrow, next, node_link}

@@ -1,5 +1,5 @@
 -- The tags that releasing and taking write, and what emptying a payload does, on the words alone; and when the sums of a release stay in range.
-use Rattle.std.specs.Prelude.{ℕ, zero, suc, ◌+◌, ◌-◌, ◌/◌, ◌%◌, ◌^◌, ◌<◌, ◌≤◌, Bool, true, false, List, set, slice_set}
+use Rattle.std.specs.Prelude.{ℕ, zero, suc, ◌+◌, ◌-◌, ◌/◌, ◌%◌, ◌^◌, ◌<◌, ◌≤◌, Bool, true, false, List, slice_set}
 use Rattle.words.specs.Choice.{pick}
 use Rattle.words.specs.Tags.{at, header_of, length_of, freeᵇ, left_freeᵇ, right_of, footer_of}
 

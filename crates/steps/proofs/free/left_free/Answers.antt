@@ -1,5 +1,4 @@
 -- `steps::free::left_free` meets its contract: the flag says whether there is a free left neighbour, and its footer how long it is.
-use borrow.Author.Tests.{not-true, not-false}
 use Rattle.steps.proofs.Neighbours.{left_none, left_some}
 use Rattle.steps.proofs.free.left_free.Goals as goal
 

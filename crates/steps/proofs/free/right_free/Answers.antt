@@ -1,5 +1,4 @@
 -- `steps::free::right_free` meets its contract: the flag says whether the chunk is free, and its header how long it is.
-use borrow.Author.Tests.{not-true, not-false}
 use Rattle.steps.proofs.Neighbours.{right_none, right_some}
 use Rattle.steps.proofs.free.right_free.Goals as goal
 

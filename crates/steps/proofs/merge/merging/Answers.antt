@@ -8,5 +8,5 @@ returns c =
     let below : c.args.l.0 < 65536 = omega (arith, c.well_formed) in
     merging_by c.args.heap.now _ _ _ _ _ _ _ _ _ _ _ below c.ranges.n.fits
     c.link_to_hdr-hdr.ensures c.hdr_to_right_hdr-next.ensures c.left_free-before.ensures c.right_free-after.ensures
-    c.hdr_to_left_hdr-merged.ensures c.wrapping_add_u32.ensures c.wrapping_add_u32-size.ensures
+    c.hdr_to_left_hdr-merged.ensures c.wrapping_add_u32.ensures.value c.wrapping_add_u32-size.ensures.value
     c.hdr_to_link-link.ensures c.hdr_to_link-right.ensures

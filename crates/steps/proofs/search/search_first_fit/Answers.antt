@@ -1,8 +1,6 @@
 -- `steps::search::search_first_fit` meets its contract. Invariant: the whole search is the search of the lists from this class on, and no more than `limit`
 -- were compared. A list without a fit keeps it, since its walk counts no further than the limit. Measure: the classes that are left.
-use Rattle.std.proofs.Common.{◌-◌, sym, ap, ◌∙◌, arith}
-use Rattle.steps.specs.declared.search.Found.{Found}
-use Rattle.steps.specs.Found.{told}
+use Rattle.std.proofs.Common.{sym, ◌∙◌, arith}
 use Rattle.steps.proofs.Walks.{walk_bound, fit_out, fit_hit, fit_miss, fit_lost}
 use Rattle.steps.proofs.search.search_first_fit.Goals as goal
 
@@ -12,26 +10,17 @@ loop-class-init c = (rw c.start_index-class.ensures, omega arith, omega arith)
 pub walk_list-found-requires : goal.walk_list-found-requires
 walk_list-found-requires c = omega arith
 
-pub enum_known-found : goal.enum_known-found
-enum_known-found c = c.in-At.keys1
-
 pub returns-in-At : goal.returns-in-At
 returns-in-At c =
     sym
     (c.loop-class.invariant.0 ∙ fit_hit _ _ _ _ _ _ (omega arith)
-    (sym c.walk_list-found.ensures ∙ ap (λ (q : Found). told q) c.found-1.given.1))
-
-pub enum_known-found-in-Nothing-1 : goal.enum_known-found-in-Nothing-1
-enum_known-found-in-Nothing-1 c = c.in-Nothing.keys2
-
-pub enum_told-1 : goal.enum_told-1
-enum_told-1 c = c.in-Lost.keys3
+    (sym c.in-At.ensures))
 
 pub returns-in-Lost : goal.returns-in-Lost
 returns-in-Lost c =
     sym
     (c.loop-class.invariant.0 ∙ fit_lost _ _ _ _ (omega arith)
-    (sym c.walk_list-found.ensures ∙ ap (λ (q : Found). told q) c.enum_told-1.given.1))
+    (sym c.in-Lost.ensures))
 
 pub overflow_add-class : goal.overflow_add-class
 overflow_add-class c = omega arith
@@ -41,7 +30,7 @@ loop-class-smaller c = omega arith
 
 pub loop-class-preserved : goal.loop-class-preserved
 loop-class-preserved c =
-    let w = sym c.walk_list-found.ensures ∙ ap (λ (q : Found). told q) c.found-in-Nothing-1.given.1 in (
+    let w = sym c.in-Nothing.ensures in (
       c.loop-class.invariant.0 ∙ fit_miss _ _ _ _ _ _ (omega arith) w,
       walk_bound _ _ _ _ _ _ _ c.loop-class.invariant.1 w,
       omega arith,

@@ -26,7 +26,7 @@ loop-i-preserved c =
     let left : n - i ≡ n - (i + 1) + 1 = omega (arith, c.loop-i-test.true) in (
       omega (arith, c.loop-i-test.true),
       inv.1,
-      c.put.auto.0 ∙ inv.2,
+      c.put.auto.heap ∙ inv.2,
       inv.3 ∙ undone_turn c.args.log.now
           c.loop-i.heap (n - i) (n - (i + 1)) left
           ∙ ap (undone c.args.log.now (n - (i + 1)))
