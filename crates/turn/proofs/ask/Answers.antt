@@ -11,15 +11,15 @@ slice_bounds-take_back-end c = lent_le _ _ _ c.lent_words-n-in-TakeBack.ensures
 
 pub returns-in-Make : goal.returns-in-Make
 returns-in-Make c =
-    make_by (places_of c.args.kind) c.args.rec c.args.memory.now _ _ c.make.result _ c.request-1.given.1
+    make_by (places_of c.args.kind) c.args.rec c.args.memory.now _ _ c.make.result _ c.in-Make.is
     c.make.ensures
 
 pub returns-in-HandOut : goal.returns-in-HandOut
 returns-in-HandOut c =
     hand_by (places_of c.args.kind) c.args.rec c.args.memory.now _ _ c.hand_out-out.result c.tell.result _
-    c.lent_words-n.ensures c.tell.ensures _ c.request-in-HandOut-1.given.1 c.hand_out-out.ensures
+    c.lent_words-n.ensures c.tell.ensures _ c.in-HandOut.is c.hand_out-out.ensures
 
 pub returns-in-TakeBack : goal.returns-in-TakeBack
 returns-in-TakeBack c =
     back_by (places_of c.args.kind) c.args.rec c.args.memory.now _ _ c.take_back-out.result c.tell-in-TakeBack.result _
-    c.lent_words-n-in-TakeBack.ensures c.tell-in-TakeBack.ensures _ c.request-in-TakeBack-1.given.1 c.take_back-out.ensures
+    c.lent_words-n-in-TakeBack.ensures c.tell-in-TakeBack.ensures _ c.in-TakeBack.is c.take_back-out.ensures

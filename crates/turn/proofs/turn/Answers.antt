@@ -4,9 +4,9 @@ use Rattle.heap.specs.Kind.{places_of}
 use Rattle.turn.proofs.turn.Goals as goal
 
 pub returns-in-Bad : goal.returns-in-Bad
-returns-in-Bad c = bad_by (places_of c.args.kind) c.args.rec c.args.memory.now _ _ c.enum_told-1.given.1 c.refuse.ensures
+returns-in-Bad c = bad_by (places_of c.args.kind) c.args.rec c.args.memory.now _ _ c.in-Bad.is c.refuse.ensures
 
 pub returns-in-Good : goal.returns-in-Good
 returns-in-Good c =
-    good_by (places_of c.args.kind) c.args.rec c.args.memory.now _ c.ask.result _ _ c.line-1.given.1
+    good_by (places_of c.args.kind) c.args.rec c.args.memory.now _ c.ask.result _ _ c.in-Good.is
     c.ask.ensures
