@@ -3,11 +3,11 @@
 --     sound_four      what is sound for a kind is sound with four places
 --     make-..         making;  one_chunk_by: its one free chunk
 --     cache_packed    in a sound pair no unused place stands before a used one
---     served-..       a handout from the cache;  listed-..: from the lists;  found_taken: what a search found
---     oldest-..       the oldest cached chunk, let go
---     live-..         which offsets are live
---     settled-..      a chunk taken back
---     hand-.., back-..    the tests in their order
+--     served_..       a handout from the cache;  listed_..: from the lists;  found_taken: what a search found
+--     oldest_..       the oldest cached chunk, let go
+--     live_..         which offsets are live
+--     settled_..      a chunk taken back
+--     hand-.., back_..    the tests in their order
 use mathlib.Core.Path.{◌≡◌, refl, sym, ap, ◌∙◌, subst}
 use mathlib.Core.Bool.{Bool, true, false}
 use mathlib.Core.List.Memᴰ
