@@ -1,9 +1,8 @@
 -- `map::read::check_lines` meets its contract. Invariant: all lines count to what those from byte i on count to, after n rows. Measure: the bytes that are
 -- left.
-use mathlib.Core.Path.{sym, ◌∙◌}
-use mathlib.Core.Path.{◌≡◌}
+use mathlib.Core.Path.{◌≡◌, sym, ◌∙◌}
 use mathlib.Core.List.{List}
-use Prim.Native.Nat.{ℕ, ◌+◌, ◌-◌, ◌≤◌}
+use Prim.Native.Nat.{ℕ, ◌+◌, ◌≤◌}
 use native.Mathlib.Omega.{arith}
 use lib.ListN.{length, take, drop}
 use Rattle.map.specs.declared.rows.Row.{Row}
@@ -48,13 +47,13 @@ loop-i-smaller c = omega (arith, inside c.args.lines.now c.loop-i.i c.in-Good.en
 
 pub loop-i-preserved : goal.loop-i-preserved
 loop-i-preserved c = (
-      c.loop-i.invariant.0
-          ∙ tried_on _ _ _ c.args.lines.now _ _ c.loop-i-test.true c.loop-i.invariant.2 _
-          c.in-Good.ensures
-          (sym c.if-not-fits.false ∙ c.follows-fits.ensures) _ c.place_after-p.ensures,
-      inside c.args.lines.now c.loop-i.i c.in-Good.ensures,
-      omega arith,
-    )
+  c.loop-i.invariant.0
+      ∙ tried_on _ _ _ c.args.lines.now _ _ c.loop-i-test.true c.loop-i.invariant.2 _
+      c.in-Good.ensures
+      (sym c.if-not-fits.false ∙ c.follows-fits.ensures) _ c.place_after-p.ensures,
+  inside c.args.lines.now c.loop-i.i c.in-Good.ensures,
+  omega arith,
+)
 
 pub returns : goal.returns
 returns c = sym (c.loop-i.invariant.0 ∙ tried_end _ _ _ c.args.lines.now _ _ c.loop-i-test.false)

@@ -1,9 +1,8 @@
 -- `map::read::lay_rows` meets its contract. Invariant: once the lines from byte i on are laid behind the first k rows, the room is what the contract says.
 -- Measure: the rows that are left.
-use mathlib.Core.Path.{refl, sym, ◌∙◌}
-use mathlib.Core.Path.{◌≡◌}
+use mathlib.Core.Path.{◌≡◌, refl, sym, ◌∙◌}
 use mathlib.Core.List.{List}
-use Prim.Native.Nat.{ℕ, ◌+◌, ◌-◌, ◌≤◌}
+use Prim.Native.Nat.{ℕ, ◌+◌, ◌≤◌}
 use native.Mathlib.Omega.{arith}
 use lib.ListN.{length, take, drop, length-set}
 use Rattle.map.specs.declared.rows.Row.{Row}
@@ -34,13 +33,13 @@ overflow_add-i c = omega (arith, inside c.args.lines.now c.loop-k.i c.in-Good.en
 
 pub loop-k-preserved : goal.loop-k-preserved
 loop-k-preserved c = (
-      c.loop-k.invariant.0
-          ∙ laying_on _ c.args.lines.now c.loop-k.room _ _ _ c.loop-k-test.true
-          (omega (arith, c.requires, c.loop-k.invariant.3)) c.in-Good.ensures,
-      inside c.args.lines.now c.loop-k.i c.in-Good.ensures,
-      omega arith,
-      simp length-set c.loop-k.invariant.3,
-    )
+  c.loop-k.invariant.0
+      ∙ laying_on _ c.args.lines.now c.loop-k.room _ _ _ c.loop-k-test.true
+      (omega (arith, c.requires, c.loop-k.invariant.3)) c.in-Good.ensures,
+  inside c.args.lines.now c.loop-k.i c.in-Good.ensures,
+  omega arith,
+  simp length-set c.loop-k.invariant.3,
+)
 
 pub returns : goal.returns
 returns c = sym (c.loop-k.invariant.0 ∙ laying_end _ _ _ _ _ c.loop-k-test.false)

@@ -21,7 +21,9 @@ pub returns-then-places-p : goal.returns-then-places-p
 returns-then-places-p c = follows_over _ _ _ (placed _ c.args.r c.stands-placed.ensures c.if-not-placed.false) c.if-places-p.true
 
 pub returns-then-r-eq17 : goal.returns-then-r-eq17
-returns-then-r-eq17 c = follows_live _ _ _ (placed _ c.args.r c.stands-placed.ensures c.if-not-placed.false) c.if-places-p.false c.if-r-eq18.false c.if-r-eq17.true
+returns-then-r-eq17 c =
+    follows_live _ _ _ (placed _ c.args.r c.stands-placed.ensures c.if-not-placed.false)
+    c.if-places-p.false c.if-r-eq18.false c.if-r-eq17.true
 
 pub returns : goal.returns
 returns c = follows_free _ _ _ (placed _ c.args.r c.stands-placed.ensures c.if-not-placed.false) c.if-places-p.false c.if-r-eq18.false c.if-r-eq17.false

@@ -25,13 +25,17 @@ returns-then-len-eq0 c =
     omega (arith, c.loop-fuel.invariant.0, ap length none)
 
 pub overflow_add-e : goal.overflow_add-e
-overflow_add-e c = omega (arith, (left c.args.heap.now _ c.loop-fuel.e c.get_hdr_chunk_size-len.ensures c.loop-fuel-test.true c.if-len-eq0.false).bytes)
+overflow_add-e c =
+    let after = left c.args.heap.now _ c.loop-fuel.e c.get_hdr_chunk_size-len.ensures c.loop-fuel-test.true c.if-len-eq0.false in
+    omega (arith, after.bytes)
 
 pub loop-fuel-smaller : goal.loop-fuel-smaller
 loop-fuel-smaller c = omega arith
 
 pub loop-fuel-preserved : goal.loop-fuel-preserved
-loop-fuel-preserved c = (omega (arith, (left c.args.heap.now _ c.loop-fuel.e c.get_hdr_chunk_size-len.ensures c.loop-fuel-test.true c.if-len-eq0.false).chunks), omega (arith, (left c.args.heap.now _ c.loop-fuel.e c.get_hdr_chunk_size-len.ensures c.loop-fuel-test.true c.if-len-eq0.false).bytes), omega arith)
+loop-fuel-preserved c =
+    let after = left c.args.heap.now _ c.loop-fuel.e c.get_hdr_chunk_size-len.ensures c.loop-fuel-test.true c.if-len-eq0.false in
+    (omega (arith, after.chunks), omega (arith, after.bytes), omega arith)
 
 pub returns : goal.returns
 returns c = omega (arith, c.loop-fuel.invariant.0, ap length (tile_out c.args.heap.now _ c.loop-fuel.e c.loop-fuel-test.false))

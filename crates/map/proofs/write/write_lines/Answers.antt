@@ -29,16 +29,24 @@ returns-then-len-eq0 c =
     sym (c.loop-fuel.invariant.0 ∙ lines_out _ _ c.loop-fuel.e _ _ none)
 
 pub overflow_add-i : goal.overflow_add-i
-overflow_add-i c = omega (arith, (left c.args.heap.now _ c.loop-fuel.e c.get_hdr_chunk_size-len.ensures c.loop-fuel-test.true c.if-len-eq0.false).chunks)
+overflow_add-i c =
+    let after = left c.args.heap.now _ c.loop-fuel.e c.get_hdr_chunk_size-len.ensures c.loop-fuel-test.true c.if-len-eq0.false in
+    omega (arith, after.chunks)
 
 pub slice_bounds-write_answer-end : goal.slice_bounds-write_answer-end
-slice_bounds-write_answer-end c = omega (arith, (left c.args.heap.now _ c.loop-fuel.e c.get_hdr_chunk_size-len.ensures c.loop-fuel-test.true c.if-len-eq0.false).chunks)
+slice_bounds-write_answer-end c =
+    let after = left c.args.heap.now _ c.loop-fuel.e c.get_hdr_chunk_size-len.ensures c.loop-fuel-test.true c.if-len-eq0.false in
+    omega (arith, after.chunks)
 
 pub overflow_add-e : goal.overflow_add-e
-overflow_add-e c = omega (arith, (left c.args.heap.now _ c.loop-fuel.e c.get_hdr_chunk_size-len.ensures c.loop-fuel-test.true c.if-len-eq0.false).bytes)
+overflow_add-e c =
+    let after = left c.args.heap.now _ c.loop-fuel.e c.get_hdr_chunk_size-len.ensures c.loop-fuel-test.true c.if-len-eq0.false in
+    omega (arith, after.bytes)
 
 pub overflow_add-i-in-loop-fuel : goal.overflow_add-i-in-loop-fuel
-overflow_add-i-in-loop-fuel c = omega (arith, (left c.args.heap.now _ c.loop-fuel.e c.get_hdr_chunk_size-len.ensures c.loop-fuel-test.true c.if-len-eq0.false).chunks)
+overflow_add-i-in-loop-fuel c =
+    let after = left c.args.heap.now _ c.loop-fuel.e c.get_hdr_chunk_size-len.ensures c.loop-fuel-test.true c.if-len-eq0.false in
+    omega (arith, after.chunks)
 
 pub loop-fuel-smaller : goal.loop-fuel-smaller
 loop-fuel-smaller c = omega arith
@@ -46,13 +54,14 @@ loop-fuel-smaller c = omega arith
 pub loop-fuel-preserved : goal.loop-fuel-preserved
 loop-fuel-preserved c =
     let here = c.loop-fuel in
+    let after = left c.args.heap.now _ c.loop-fuel.e c.get_hdr_chunk_size-len.ensures c.loop-fuel-test.true c.if-len-eq0.false in
     let w : here.i + 19 - here.i ≡ 19 = omega arith in
     let kept = same_len_mid here.i (here.i + 19 - here.i) here.room c.write_answer.new.out c.write_answer.auto.out in (
       here.invariant.0 ∙ lines_on _ c.args.heap.now here.room _ here.fuel here.e here.i _ _
           (here.i + 19 - here.i) c.get_hdr_chunk_size-len.ensures c.loop-fuel-test.true c.if-len-eq0.false
           c.kind_at-kind.ensures w here.invariant.2 c.write_answer.ensures,
-      omega (arith, (left c.args.heap.now _ c.loop-fuel.e c.get_hdr_chunk_size-len.ensures c.loop-fuel-test.true c.if-len-eq0.false).bytes),
-      omega (arith, kept, (left c.args.heap.now _ c.loop-fuel.e c.get_hdr_chunk_size-len.ensures c.loop-fuel-test.true c.if-len-eq0.false).chunks),
+      omega (arith, after.bytes),
+      omega (arith, kept, after.chunks),
       kept ∙ here.invariant.3,
     )
 

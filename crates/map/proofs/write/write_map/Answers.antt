@@ -26,13 +26,17 @@ count_chunks-n-requires c = sound_short _ _ (sound c.args.kind c.args.rec c.args
 
 pub returns-then-room-n : goal.returns-then-room-n
 returns-then-room-n c =
-    sound_no_room _ c.args.rec c.args.heap.now c.args.room.now (sound c.args.kind c.args.rec c.args.heap.now c.audit-sound.ensures c.if-not-sound.false) _ c.count_chunks-n.ensures
+    let whole = sound c.args.kind c.args.rec c.args.heap.now c.audit-sound.ensures c.if-not-sound.false in
+    sound_no_room _ c.args.rec c.args.heap.now c.args.room.now whole _ c.count_chunks-n.ensures
     c.if-room-n.true
 
 pub write_lines-requires : goal.write_lines-requires
-write_lines-requires c = (sound_short _ _ (sound c.args.kind c.args.rec c.args.heap.now c.audit-sound.ensures c.if-not-sound.false), omega (arith, c.count_chunks-n.ensures, c.if-room-n.false))
+write_lines-requires c =
+    let whole = sound c.args.kind c.args.rec c.args.heap.now c.audit-sound.ensures c.if-not-sound.false in
+    (sound_short _ _ whole, omega (arith, c.count_chunks-n.ensures, c.if-room-n.false))
 
 pub returns : goal.returns
 returns c =
-    sound_done _ c.args.rec c.args.heap.now c.args.room.now (sound c.args.kind c.args.rec c.args.heap.now c.audit-sound.ensures c.if-not-sound.false) _ c.count_chunks-n.ensures _
+    let whole = sound c.args.kind c.args.rec c.args.heap.now c.audit-sound.ensures c.if-not-sound.false in
+    sound_done _ c.args.rec c.args.heap.now c.args.room.now whole _ c.count_chunks-n.ensures _
     c.if-room-n.false c.write_lines.ensures
