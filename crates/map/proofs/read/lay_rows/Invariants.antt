@@ -9,7 +9,9 @@ use Rattle.map.proofs.Reader.Laid.{laying}
 use Rattle.map.proofs.read.lay_rows.Given as goal
 
 abbrev pub invariant-loop-k : goal.invariant-loop-k
-invariant-loop-k l = (over (words_in l.n l.lines) l.initial.room ≡ laying l.n l.lines l.room l.i l.k) × (l.i ≤ length l.lines) × (l.k ≤ l.n) × (length l.room ≡ length l.initial.room)
+invariant-loop-k l =
+    (over (words_in l.n l.lines) l.initial.room ≡ laying l.n l.lines l.room l.i l.k)
+    × (l.i ≤ length l.lines) × (l.k ≤ l.n) × (length l.room ≡ length l.initial.room)
 
 abbrev pub decreases-loop-k : goal.decreases-loop-k
 decreases-loop-k l = l.n - l.k

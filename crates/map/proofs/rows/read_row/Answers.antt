@@ -13,21 +13,21 @@ returns-then-line-ne10 c = row_end _ c.if-line-ne19.false c.if-line-ne10.true
 pub returns-in_default : goal.returns-in_default
 returns-in_default c =
     row_none _ c.if-line-ne19.false 0 2 (omega arith) (omega arith)
-    (sym c.enum_told-1.given.1 ∙ c.read_field-first.ensures)
+    (sym c.in_default.is ∙ c.read_field-first.ensures)
 
 pub returns-in_default-second : goal.returns-in_default-second
 returns-in_default-second c =
     row_none _ c.if-line-ne19.false 2 8 (omega arith) (omega arith)
-    (sym c.enum_told-in_default-second-1.given.1 ∙ c.read_field-second.ensures)
+    (sym c.in_default-second.is ∙ c.read_field-second.ensures)
 
 pub returns-in_default-third : goal.returns-in_default-third
 returns-in_default-third c =
     row_none _ c.if-line-ne19.false 10 8 (omega arith) (omega arith)
-    (sym c.enum_told-in_default-third-1.given.1 ∙ c.read_field-third.ensures)
+    (sym c.in_default-third.is ∙ c.read_field-third.ensures)
 
 pub returns : goal.returns
 returns c =
     row_is _ c.if-line-ne19.false _ _ _ c.if-line-ne10.false
-    (sym c.first-1.given.1 ∙ c.read_field-first.ensures)
-    (sym c.second-1.given.1 ∙ c.read_field-second.ensures)
-    (sym c.third-1.given.1 ∙ c.read_field-third.ensures)
+    c.in-Number.ensures
+    c.in-Number-second.ensures
+    c.in-Number-third.ensures

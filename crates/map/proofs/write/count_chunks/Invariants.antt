@@ -10,7 +10,9 @@ use Rattle.map.specs.Writing.{chunks_in}
 use Rattle.map.proofs.write.count_chunks.Given as goal
 
 abbrev pub invariant-loop-fuel : goal.invariant-loop-fuel
-invariant-loop-fuel l = (l.n + length (tile (at l.heap) l.fuel l.e) ≡ length (chunks_in l.heap)) × (l.e + total (tile (at l.heap) l.fuel l.e) ≤ 262112) × (l.n + l.fuel ≡ length l.heap)
+invariant-loop-fuel l =
+    (l.n + length (tile (at l.heap) l.fuel l.e) ≡ length (chunks_in l.heap))
+    × (l.e + total (tile (at l.heap) l.fuel l.e) ≤ 262112) × (l.n + l.fuel ≡ length l.heap)
 
 abbrev pub decreases-loop-fuel : goal.decreases-loop-fuel
 decreases-loop-fuel l = l.fuel

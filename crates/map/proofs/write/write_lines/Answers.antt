@@ -1,19 +1,19 @@
 -- `map::write::write_lines` meets its contract. Invariant: the lines from here on, laid over the room as it is, give what all lines over the first room
 -- give; the bytes from here on end in time; and the room has a line's bytes for each chunk that is left. Measure: the fuel.
 use mathlib.Core.Path.{◌≡◌, refl, sym, ◌∙◌}
-use Prim.Native.Nat.{◌+◌, ◌-◌}
+use mathlib.Core.List.{List}
+use Prim.Native.Nat.{ℕ, ◌+◌, ◌-◌, ◌/◌, ◌<◌}
 use native.Mathlib.Omega.{arith}
 use borrow.Rule.Slice.PartMut.{same_len_mid}
+use Rattle.words.specs.Tags.{at, length_of}
 use Rattle.map.specs.Writing.{chunks_in}
 use Rattle.map.proofs.Room.{over_from}
 use Rattle.map.proofs.Writing.{Left, tile_out, tile_guard, chunk_left, lines_on, lines_out}
 use Rattle.map.proofs.write.write_lines.Goals as goal
 
 -- what the chunk that is written leaves
-left : (c : tie.Else1 invariant-loop decreases-loop)
-    → Left c.before.before.before.before.before.before.args.heap.now c.before.before.before.loop.fuel
-    c.before.before.before.loop.e c.before.get-hdr-chunk-size.result
-left c = chunk_left _ _ _ c.before.get-hdr-chunk-size.ensures _ c.before.before.loop-test.true c.if1.false
+left : (ws : List ℕ) (fuel e : ℕ) {n : ℕ} → n ≡ length_of (at ws (e / 4)) → 0 < fuel → (n ≡ 0 → ⊥) → Left ws fuel e n
+left ws fuel e h more some = chunk_left ws e _ h fuel more some
 
 pub loop-fuel-init : goal.loop-fuel-init
 unfolding chunks_in over_from
@@ -29,16 +29,24 @@ returns-then-len-eq0 c =
     sym (c.loop-fuel.invariant.0 ∙ lines_out _ _ c.loop-fuel.e _ _ none)
 
 pub overflow_add-i : goal.overflow_add-i
-overflow_add-i c = omega (arith, (left c.before).chunks)
+overflow_add-i c =
+    let after = left c.args.heap.now _ c.loop-fuel.e c.get_hdr_chunk_size-len.ensures c.loop-fuel-test.true c.if-len-eq0.false in
+    omega (arith, after.chunks)
 
 pub slice_bounds-write_answer-end : goal.slice_bounds-write_answer-end
-slice_bounds-write_answer-end c = omega (arith, (left c.before).chunks)
+slice_bounds-write_answer-end c =
+    let after = left c.args.heap.now _ c.loop-fuel.e c.get_hdr_chunk_size-len.ensures c.loop-fuel-test.true c.if-len-eq0.false in
+    omega (arith, after.chunks)
 
 pub overflow_add-e : goal.overflow_add-e
-overflow_add-e c = omega (arith, (left c.before.before.before.before.before).bytes)
+overflow_add-e c =
+    let after = left c.args.heap.now _ c.loop-fuel.e c.get_hdr_chunk_size-len.ensures c.loop-fuel-test.true c.if-len-eq0.false in
+    omega (arith, after.bytes)
 
 pub overflow_add-i-in-loop-fuel : goal.overflow_add-i-in-loop-fuel
-overflow_add-i-in-loop-fuel c = omega (arith, (left c.before.before.before.before.before).chunks)
+overflow_add-i-in-loop-fuel c =
+    let after = left c.args.heap.now _ c.loop-fuel.e c.get_hdr_chunk_size-len.ensures c.loop-fuel-test.true c.if-len-eq0.false in
+    omega (arith, after.chunks)
 
 pub loop-fuel-smaller : goal.loop-fuel-smaller
 loop-fuel-smaller c = omega arith
@@ -46,13 +54,14 @@ loop-fuel-smaller c = omega arith
 pub loop-fuel-preserved : goal.loop-fuel-preserved
 loop-fuel-preserved c =
     let here = c.loop-fuel in
+    let after = left c.args.heap.now _ c.loop-fuel.e c.get_hdr_chunk_size-len.ensures c.loop-fuel-test.true c.if-len-eq0.false in
     let w : here.i + 19 - here.i ≡ 19 = omega arith in
-    let kept = same_len_mid here.i (here.i + 19 - here.i) here.room c.write_answer.new.0 c.write_answer.auto.0 in (
+    let kept = same_len_mid here.i (here.i + 19 - here.i) here.room c.write_answer.new.out c.write_answer.auto.out in (
       here.invariant.0 ∙ lines_on _ c.args.heap.now here.room _ here.fuel here.e here.i _ _
           (here.i + 19 - here.i) c.get_hdr_chunk_size-len.ensures c.loop-fuel-test.true c.if-len-eq0.false
           c.kind_at-kind.ensures w here.invariant.2 c.write_answer.ensures,
-      omega (arith, (left chunk).bytes),
-      omega (arith, kept, (left chunk).chunks),
+      omega (arith, after.bytes),
+      omega (arith, kept, after.chunks),
       kept ∙ here.invariant.3,
     )
 
