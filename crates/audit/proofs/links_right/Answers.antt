@@ -1,6 +1,5 @@
 -- `audit::links_right` meets its contract: each link before the others.
 use Rattle.std.proofs.Common.{sym, ◌∙◌, arith}
-use borrow.Author.Tests.{not-true, not-false}
 use Rattle.audit.proofs.Links.{bad_0, bad_1, bad_2, bad_3, good}
 use Rattle.audit.proofs.links_right.Goals as goal
 

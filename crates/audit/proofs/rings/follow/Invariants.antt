@@ -9,7 +9,8 @@ use Rattle.audit.proofs.rings.follow.Given as goal
 abbrev pub invariant-loop-n : goal.invariant-loop-n
 invariant-loop-n l =
     ((next : List Link) → l.initial.k.0 ≡ next_of next l.heap l.class
-    → Following (next_of next l.heap) (prev_of l.prev l.heap) (insideᵇ l.heap l.first) l.class (chained l.prev next l.heap l.first l.class) (length l.heap + 1) l.from l.n
+    → Following (next_of next l.heap) (prev_of l.prev l.heap) (insideᵇ l.heap l.first) l.class
+    (chained l.prev next l.heap l.first l.class) (length l.heap + 1) l.from l.n
     × (l.k.0 ≡ next_of next l.heap l.from)) × (l.n ≤ length l.heap + 1)
 
 abbrev pub decreases-loop-n : goal.decreases-loop-n

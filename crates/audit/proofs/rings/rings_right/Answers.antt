@@ -1,5 +1,5 @@
 -- `audit::rings::rings_right` meets its contract. Invariant: the lists passed are rings of the right length. Measure: the classes left.
-use Rattle.std.proofs.Common.{◌-◌, sym, ap, ◌∙◌, arith, below_none, below_more}
+use Rattle.std.proofs.Common.{sym, ap, ◌∙◌, arith, below_none, below_more}
 use Rattle.audit.specs.declared.rings.Followed.TheVariants.{Long}
 use Rattle.audit.proofs.rings.Chases.{cut_not_long, long_is}
 use Rattle.audit.proofs.Counting.{refused, granted}
@@ -10,20 +10,17 @@ loop-class-init c = (omega arith, below_none _)
 
 pub returns-in-Cut : goal.returns-in-Cut
 returns-in-Cut c =
-    refused (λ p. cut_not_long _
-    (sym c.enum_told-1.given.1 ∙ c.follow-f.ensures ∙ p _ c.loop-class-test.true))
+    refused (λ p. cut_not_long _ (c.in-Cut.ensures ∙ p _ c.loop-class-test.true))
 
 pub returns-then-n-frees : goal.returns-then-n-frees
 returns-then-n-frees c =
-    refused (λ p. c.if-n-frees.true (long_is _ _
-    (sym c.f-1.given.1 ∙ c.follow-f.ensures
-    ∙ p _ c.loop-class-test.true)))
+    refused (λ p. c.if-n-frees.true (long_is _ _ (c.in-Long.ensures ∙ p _ c.loop-class-test.true)))
 
 pub loop-class-preserved : goal.loop-class-preserved
 loop-class-preserved c = (
   omega arith,
   below_more _ _ c.loop-class.invariant.1
-      (sym c.follow-f.ensures ∙ c.f-1.given.1 ∙ ap Long c.if-n-frees.false),
+      (sym c.in-Long.ensures ∙ ap Long c.if-n-frees.false),
 )
 
 pub returns : goal.returns

@@ -1,6 +1,6 @@
 -- `audit::tiling::count_chunks` meets its contract. Invariant: for each class, what is left to walk with the sums so far is the whole walk; the
 -- words waited for are chased; the first free chunk is met, or the search for it is on. Measure: the words ahead.
-use Rattle.std.proofs.Common.{◌-◌, sym, ◌∙◌, arith}
+use Rattle.std.proofs.Common.{sym, arith}
 use Rattle.audit.specs.Walk.{tallied}
 use Rattle.audit.proofs.tiling.Walks.{tiled_empty}
 use Rattle.audit.proofs.tiling.Tallies.{tallying_starts, broken_told, tally_room, tallying_bad, tallying_free, tallying_used, tallying_end}
@@ -17,7 +17,7 @@ loop-at-init c = (tallying_starts _ (omega arith), chasing_starts _ _ _ c.next_f
 
 pub returns-in-Bad : goal.returns-in-Bad
 returns-in-Bad c =
-    let seen = sym c.seen_at-seen.ensures ∙ c.enum_told-1.given.1 in
+    let seen = sym c.in-Bad.ensures in
     let inv = c.loop-at.invariant in
     let more = c.loop-at-test.true in
     broken_told _ _ _ c.no_tiling-in-Bad.ensures (tallying_bad _ _ _ _ _ _ inv.0 more seen)
@@ -48,14 +48,14 @@ bounds-frees-class-in-Free c =
     omega (arith, tally_room _ _ _ _ _ _ inv.0 _ _ c.chunk_size_to_list_index-class.ensures)
 
 pub overflow_add-at-in-Free : goal.overflow_add-at-in-Free
-overflow_add-at-in-Free c = omega (arith, free_room _ _ _ _ (sym c.seen_at-seen.ensures ∙ c.seen-1.given.1))
+overflow_add-at-in-Free c = omega (arith, free_room _ _ _ _ (sym c.in-Free.ensures))
 
 pub loop-at-smaller-in-Free : goal.loop-at-smaller-in-Free
-loop-at-smaller-in-Free c = omega (arith, free_room _ _ _ _ (sym c.seen_at-seen.ensures ∙ c.seen-1.given.1))
+loop-at-smaller-in-Free c = omega (arith, free_room _ _ _ _ (sym c.in-Free.ensures))
 
 pub loop-at-preserved-in-Free : goal.loop-at-preserved-in-Free
 loop-at-preserved-in-Free c =
-    let seen = sym c.seen_at-seen.ensures ∙ c.seen-1.given.1 in
+    let seen = sym c.in-Free.ensures in
     let inv = c.loop-at.invariant in
     let more = c.loop-at-test.true in (
       tallying_free _ _ _ _ _ _ inv.0 more _ _ seen c.chunk_size_to_list_index-class.ensures,
@@ -65,27 +65,27 @@ loop-at-preserved-in-Free c =
 
 pub overflow_add-at-in-Used : goal.overflow_add-at-in-Used
 overflow_add-at-in-Used c =
-    let seen = sym c.seen_at-seen.ensures ∙ c.seen-in-Used-1.given.1 in
+    let seen = sym c.in-Used.ensures in
     omega (arith, used_room _ _ _ _ seen)
 
 pub overflow_add-sum : goal.overflow_add-sum
 overflow_add-sum c =
-    let seen = sym c.seen_at-seen.ensures ∙ c.seen-in-Used-1.given.1 in
+    let seen = sym c.in-Used.ensures in
     omega (arith, used_room _ _ _ _ seen)
 
 pub overflow_mul-top : goal.overflow_mul-top
 overflow_mul-top c =
-    let seen = sym c.seen_at-seen.ensures ∙ c.seen-in-Used-1.given.1 in
+    let seen = sym c.in-Used.ensures in
     omega (arith, used_room _ _ _ _ seen)
 
 pub loop-at-smaller : goal.loop-at-smaller
 loop-at-smaller c =
-    let seen = sym c.seen_at-seen.ensures ∙ c.seen-in-Used-1.given.1 in
+    let seen = sym c.in-Used.ensures in
     omega (arith, used_room _ _ _ _ seen)
 
 pub loop-at-preserved : goal.loop-at-preserved
 loop-at-preserved c =
-    let seen = sym c.seen_at-seen.ensures ∙ c.seen-in-Used-1.given.1 in
+    let seen = sym c.in-Used.ensures in
     let inv = c.loop-at.invariant in
     let more = c.loop-at-test.true in (
       tallying_used _ _ _ _ _ _ inv.0 more _ seen,

@@ -1,7 +1,6 @@
 -- `audit::windows::listed_fit` meets its contract. Invariant: the test of the links left, of which k is the first, is that of all, and they lie
 -- before the guard. Measure: how many are left.
-use Rattle.std.proofs.Common.{true, sym, refl, ◌∙◌, arith}
-use borrow.Author.Tests.{not-true, not-false}
+use Rattle.std.proofs.Common.{sym, refl, ◌∙◌, arith}
 use Rattle.audit.proofs.rings.Nodes.{inside_is}
 use Rattle.audit.proofs.windows.Lists.{all_end, all_stop, all_on, all_parts}
 use Rattle.audit.proofs.windows.listed_fit.Goals as goal

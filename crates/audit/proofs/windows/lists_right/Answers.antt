@@ -1,7 +1,6 @@
 -- `audit::windows::lists_right` meets its contract. Invariant: every listed link below here names a free chunk of its class. Measure: the words ahead.
-use Rattle.std.proofs.Common.{◌-◌, sym, ◌∙◌, arith}
+use Rattle.std.proofs.Common.{sym, ◌∙◌, arith}
 use mathlib.Core.Bool.{false≢true}
-use borrow.Author.Tests.{not-true, not-false}
 use Rattle.audit.proofs.windows.Lists.{showing_starts, showing_on, listed_fit, all_shown}
 use Rattle.audit.proofs.windows.Marks.{zeros}
 use Rattle.audit.proofs.Counting.{refused, granted}
@@ -16,12 +15,12 @@ loop-at-init c = showing_starts _ _ _ _ c.requires
 
 pub mark-stand-requires : goal.mark-stand-requires
 mark-stand-requires c = record {
-      standing = c.loop-at.invariant.standing;
-      before = c.loop-at-test.true;
-      short = c.requires.short;
-      some = omega arith;
-      bare = zeros 128;
-    }
+  standing = c.loop-at.invariant.standing;
+  before = c.loop-at-test.true;
+  short = c.requires.short;
+  some = omega arith;
+  bare = zeros 128;
+}
 
 pub window_right-good-requires : goal.window_right-good-requires
 window_right-good-requires c =

@@ -1,7 +1,6 @@
 -- `audit::windows::window_right` meets its contract. Invariant: the lists passed fit the window. Measure: the classes left.
-use Rattle.std.proofs.Common.{◌-◌, true, sym, ◌∙◌, arith, below_none, below_more}
+use Rattle.std.proofs.Common.{sym, ◌∙◌, arith, below_none, below_more}
 use mathlib.Core.Bool.{false≢true}
-use borrow.Author.Tests.{not-true, not-false}
 use Rattle.audit.proofs.Counting.{refused, granted}
 use Rattle.audit.proofs.rings.Nodes.{next_start}
 use Rattle.audit.proofs.windows.Lists.{all_inside}

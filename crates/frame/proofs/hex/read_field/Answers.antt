@@ -1,7 +1,6 @@
 -- `frame::hex::read_field` meets its contract. Invariant: the field is what its bytes from k on say after the number read so far, which fits 32 bits.
 -- A digit keeps it; a byte that is none, and a number with no room for the digit, refuse the field. Measure: the bytes that are left.
 use mathlib.Core.Path.{sym, ◌∙◌}
-use Prim.Native.Nat.{◌-◌, ◌<◌}
 use native.Mathlib.Omega.{arith}
 use lib.Dec.{lit<}
 use Rattle.frame.proofs.Laws.Field.{field_is, field_end, field_bad, field_over, field_on}
