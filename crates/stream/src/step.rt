@@ -3,11 +3,12 @@ ghost use Rattle.std.specs.Prelude.{◌≡◌, ◌*◌, ◌≤◌, length, false
 ghost use Rattle.heap.specs.Seen.{empty_record};
 ghost use Rattle.heap.specs.Kind.{places_of};
 ghost use Rattle.feed.specs.Reading.{text_of};
-ghost use Rattle.stream.specs.Stepping.{ended, fails, piece_of, Takes, Next};
+ghost use Rattle.stream.specs.Stepping.{ended, counted, fails, piece_of, Takes, Next};
 ghost use Rattle.stream.specs.Ran.{most};
 
 use feed::Trace;
 use heap::Kind;
+use std::io::{self, Read};
 
 // How many bytes are read at most: the answers to them, nineteen for each, can still be counted. Nothing says that the input ends.
 const MOST: usize = 970881267037344820;
@@ -56,10 +57,20 @@ impl Stream {
     }
 }
 
+// How many bytes at the start of the buffer a read gave, by its answer: none if it failed, and never more than there are.
+fn count(got: io::Result<usize>, input: &[u8]) -> usize
+    ensures { result ≡ counted got (length input.now) }
+{
+    match got {
+        Ok(n) => n.min(input.len()),
+        Err(_) => 0,
+    }
+}
+
 // What the answer of a read leads to: the bytes that it gave are counted and fed.
 fn take_in(
     before: Stream,
-    got: isize,
+    got: io::Result<usize>,
     memory: &mut [u32],
     input: &[u8],
     out: &mut [u8],
@@ -69,9 +80,9 @@ fn take_in(
     ensures { Takes (places_of kind) before (piece_of before.left got input.now) memory.old result memory.new out.new
         × (result.more ≡ false → result.failed ≡ fails before.left got (length input.now)) }
 {
-    let count = io::count(got, input);
+    let count = count(got, input);
     if count == 0 {
-        return before.ended(got < 0);
+        return before.ended(got.is_err());
     }
     if before.left < count {
         return before.ended(true);
@@ -90,7 +101,8 @@ fn take_in(
 }
 
 // Reads once and feeds what was read. The room has to have nineteen bytes for each that is lent to the read.
-pub fn next(
+pub fn next<R: Read>(
+    reader: &mut R,
     before: Stream,
     memory: &mut [u32],
     input: &mut [u8],
@@ -102,6 +114,6 @@ pub fn next(
     if out.len() / 19 < input.len() {
         return before.ended(true);
     }
-    let got = libc::read(0, input);
+    let got = reader.read(input);
     take_in(before, got, memory, input, out, kind)
 }

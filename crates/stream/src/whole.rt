@@ -8,26 +8,37 @@ ghost use Rattle.stream.specs.Ran.{Going, Answered};
 
 use super::step::{Stream, next};
 use heap::Kind;
+use std::io::{Read, Write};
 
 // Reads up to the end of the input, on a heap of this kind, and writes the answers if they are wanted.
-pub fn run(memory: &mut [u32], answering: bool, kind: Kind) -> Stream
+pub fn run<R: Read, W: Write>(
+    reader: &mut R,
+    writer: &mut W,
+    memory: &mut [u32],
+    answering: bool,
+    kind: Kind,
+) -> Stream
     ensures { Answered (places_of kind) answering memory.old result memory.new }
 {
-    let mut input = io::buffer();
+    let mut input = [0u8; 4096];
     // nineteen bytes for each of 4,096: every byte may end a line
     let mut out = [0u8; 77824];
-    let s = read_all(memory, &mut input, &mut out, answering, kind);
+    let s = read_all(
+        reader, writer, memory, &mut input, &mut out, answering, kind,
+    );
     if s.failed {
         return s;
     }
     if answering {
-        return finish(s, &mut out);
+        return finish(writer, s, &mut out);
     }
     s
 }
 
 // Piece after piece, up to the end of the input.
-fn read_all(
+fn read_all<R: Read, W: Write>(
+    reader: &mut R,
+    writer: &mut W,
     memory: &mut [u32],
     input: &mut [u8],
     out: &mut [u8],
@@ -38,32 +49,32 @@ fn read_all(
 {
     let mut s = Stream::start();
     while s.more {
-        s = next(s, memory, input, out, kind);
+        s = next(reader, s, memory, input, out, kind);
         if answering {
-            s = write(s, out);
+            s = write(writer, s, out);
         }
     }
     s
 }
 
 // The answer to a line that lacks its line feed.
-fn finish(before: Stream, out: &mut [u8]) -> Stream
+fn finish<W: Write>(writer: &mut W, before: Stream, out: &mut [u8]) -> Stream
     requires { (before.written + 19 ≤ 18446744073709551615) × (19 ≤ length out.old) }
     ensures { Writes before (length (last_line (text_of before.trace.line))) result }
 {
     let trace = before.trace;
     let mut last = before;
     last.filled = trace.finish(out);
-    write(last, out)
+    write(writer, last, out)
 }
 
 // Writes the answers that stand in the room.
-fn write(before: Stream, out: &[u8]) -> Stream
+fn write<W: Write>(writer: &mut W, before: Stream, out: &[u8]) -> Stream
     requires { (before.filled ≤ length out.now) × (before.written + before.filled ≤ 18446744073709551615) }
     ensures { Writes before before.filled result }
 {
     let n = before.filled;
-    let written = io::write_all(1, &out[0..n]);
+    let written = writer.write_all(&out[0..n]).is_ok();
     let mut r = before;
     r.written = before.written + n;
     if written {
