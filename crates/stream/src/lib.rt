@@ -8,7 +8,7 @@
 //
 // WHAT IS NOT SAID, here or of any program above, since no contract can say it: that a read is made, and which bytes the system gives; that a write is
 // made, and what arrives; that a run goes on until the input ends, for a read or a write that fails ends it. Two lines of code are to be read for that:
-// `libc::read(0, input)` in `next` and `io::write_all(1, &out[0..n])` in `write`.
+// `reader.read(input)` in `next` and `writer.write_all(&out[0..n])` in `write`.
 #![tactic(auto)]
 
 mod step;
