@@ -23,7 +23,7 @@ use Rattle.heap.proofs.Answers.{ours}
 use Rattle.map.specs.declared.rows.Answer.{Answer}
 use Rattle.map.specs.Answer.{told}
 use Rattle.map.specs.Calls.{rows_of, written}
-use Rattle.map.proofs.Lines.{length_map}
+use Rattle.map.proofs.Lines.{length-map}
 use Rattle.map.proofs.Maps.{map_of_sound_heap, what_is_written}
 use Rattle.door.specs.declared.reply.Reply.{Reply}
 use Rattle.door.specs.Reply.{Counted, replied}
@@ -37,7 +37,7 @@ reply_by places rec ws before r q room e f = ap (λ (x : Reply). replied x room)
 rows_few : (places : ℕ) (s : State) → Sound base 65529 places s → 4 * length (rows_of s) ≤ length s.words - 1
 rows_few places s h =
     let m = h.0 in
-    let rows : length (rows_of s) ≡ length m.cs = ap length (map_of_sound_heap places s m h.1).0 ∙ length_map m.figs.cached 0 m.cs in
+    let rows : length (rows_of s) ≡ length m.cs = ap length (map_of_sound_heap places s m h.1).0 ∙ length-map m.figs.cached 0 m.cs in
     let fills = h.1.fills in
     omega (arith, chunks_few m.cs h.1.legal)
 

@@ -3,20 +3,19 @@
 --     sound_four      what is sound for a kind is sound with four places
 --     make-..         making;  one_chunk_by: its one free chunk
 --     cache_packed    in a sound pair no unused place stands before a used one
---     served-..       a handout from the cache;  listed-..: from the lists;  found_taken: what a search found
---     oldest-..       the oldest cached chunk, let go
---     live-..         which offsets are live
---     settled-..      a chunk taken back
---     hand-.., back-..    the tests in their order
+--     served_..       a handout from the cache;  listed_..: from the lists;  found_taken: what a search found
+--     oldest_..       the oldest cached chunk, let go
+--     live_..         which offsets are live
+--     settled_..      a chunk taken back
+--     hand-.., back_..    the tests in their order
 use mathlib.Core.Path.{◌≡◌, refl, sym, ap, ◌∙◌, subst}
-use mathlib.Core.Logic.{◌≢◌}
 use mathlib.Core.Bool.{Bool, true, false}
 use mathlib.Core.List.Memᴰ
 use mathlib.Core.List.{List, [], ◌∷◌, ◌++◌}
 use Prim.Native.Nat.{ℕ, ◌+◌, ◌-◌, ◌*◌, ◌/◌, ◌%◌, ◌^◌, ◌≤◌, ◌<◌, min}
 use native.Mathlib.Omega.{arith}
 use borrow.Author.Tests.{ltb-true, ltb-false, lt-ltb, le-ltb, lt-leb, le-leb, leb-true, eq-eqb, ne_eqb}
-use lib.Dec.{eqb, leb, ltb}
+use lib.Dec.{leb, ltb}
 use lib.ListN.{length, get_or, set, drop, length-append}
 use Rattle.words.specs.declared.names.Link.{Link}
 use Rattle.words.specs.declared.names.ByteOffset.{ByteOffset}
@@ -25,24 +24,22 @@ use Rattle.words.specs.Numbers.{numbers}
 use Rattle.words.proofs.Laws.Numbers.{numbers_at, length_numbers}
 use Rattle.words.specs.Names.{links, offsets, payloads, held_name}
 use Rattle.words.specs.Sizes.{class_of, rounded_of, threshold_of}
-use Rattle.words.specs.Tags.{at, length_of, right_of, footer_of}
+use Rattle.words.specs.Tags.{at, length_of, right_of}
 use Rattle.words.specs.Links.{narrow}
-use Rattle.rules.specs.Rules.Ops.{Ops}
 use Rattle.rules.specs.Rules.Lists.{Mem}
 use Rattle.rules.specs.Rules.Steps.{portion, length_at, unlink, link, set_left, clear_left, mark_free, mark_used, one_chunk, return_excess, take_chunk, emptied, left_free, right_free, merge, merged, release_chunk}
 use Rattle.rules.specs.Rules.Search.{Found, nowhere, lost}
 use Rattle.rules.specs.Rules.Search as rule
 use Rattle.rules.specs.Rules.Calls.{Figures, Outcome, says, byte_of, name_of, one, never, choose, listed, counted, released, let_go, without_cache, first_fit, took, from_merged, from_list, from_cache, serve, hand_out, live, settled, take_back}
 use Rattle.rules.specs.Rules.Calls as rules
-use Rattle.rules.specs.Rules.Making.{State, make, fresh}
+use Rattle.rules.specs.Rules.Making.{State, make}
 use Rattle.rules.specs.Demands.Meaning.{hand, back}
-use Rattle.rules.specs.Rules.Place.{used_at, tile, used_walk}
+use Rattle.rules.specs.Rules.Place.{used_walk}
 use Rattle.rules.proofs.Tiling.Place.{used_tile}
 use Rattle.heap.specs.declared.record.Record.{Record}
 use Rattle.heap.specs.declared.kind.Kind.{Kind}
 use Rattle.heap.specs.declared.kind.Kind.TheVariants.{One, Four}
-use Rattle.heap.specs.declared.calls.Answer.{Answer}
-use Rattle.heap.specs.declared.calls.Answer.TheVariants.{Done, ZeroSize, TooLarge, NoFit, NotLive, Damaged, BadLength, NeverFits}
+use Rattle.heap.specs.declared.calls.Answer.TheVariants.{Done, ZeroSize, TooLarge, NotLive, Damaged, BadLength, NeverFits}
 use Rattle.heap.specs.Seen.{seen, base, figures_of, with_cached, counted_in, counted_out, empty_record, fresh_record, FourPlaces}
 use Rattle.heap.specs.Kind.{places_of}
 use Rattle.steps.specs.Chunk.{freed_in, freed, left_free_in, right_free_in, emptied_in, Releasable}
@@ -57,7 +54,7 @@ use Rattle.rules.proofs.Demands.Cache.{Picked, choose_picked}
 use Rattle.rules.proofs.Demands.Shown.{walked_fit}
 use Rattle.words.proofs.Laws.Links.{narrow_lawful}
 use Rattle.rules.proofs.Demands.Editions.{edition, narrow_fits}
-use Rattle.rules.proofs.Demands.Bounds.{FoundFits, walked_fitᵇ, found_fitsᵇ, never_lostᵇ, nowhere_shortᵇ, CachedFits, cached_fitsᵇ, cached_heldᵇ, ReleaseFits, release_fitsᵇ, LiveFits, live_fitsᵇ, FiguresFit, figures_fitᵇ}
+use Rattle.rules.proofs.Demands.Bounds.{FoundFits, walked_fitᵇ, found_fitsᵇ, never_lostᵇ, nowhere_shortᵇ, cached_fitsᵇ, cached_heldᵇ, release_fitsᵇ, live_fitsᵇ, FiguresFit, figures_fitᵇ}
 
 -- ---- MAKING
 

@@ -9,7 +9,7 @@ use Rattle.words.specs.declared.names.Link.{Link}
 use Rattle.words.specs.Numbers.{numbers}
 use Rattle.words.proofs.Laws.Numbers.{length_numbers}
 use Rattle.cache.proofs.Laws.{cached_back}
-use Rattle.rules.specs.Rules.Calls.{Figures, Outcome}
+use Rattle.rules.specs.Rules.Calls.{Outcome}
 use Rattle.rules.specs.Rules.Making.{State}
 use Rattle.heap.specs.declared.record.Record.{Record}
 use Rattle.heap.specs.declared.calls.Answer.{Answer}

@@ -3,7 +3,7 @@
 --     unlink_by, link_by    the two halves of each store are the rules' unlink and link
 use mathlib.Core.Path.{◌≡◌, refl, sym, ap, ◌∙◌}
 use mathlib.Core.Bool.{Bool, true, false}
-use mathlib.Core.List.{List, [], ◌∷◌}
+use mathlib.Core.List.{List}
 use Prim.Native.Nat.{ℕ, zero, suc, ◌+◌, ◌-◌, ◌/◌, ◌%◌, ◌^◌, ◌≤◌, ◌<◌}
 use native.Mathlib.Omega.{arith}
 use borrow.Author.Tests.{lt-ltb, le-ltb, lt-leb, le-leb}
@@ -12,8 +12,8 @@ use lib.ListN.{length, get_or, set}
 use Rattle.words.specs.declared.names.Link.{Link}
 use Rattle.words.specs.Choice.{pick}
 use Rattle.words.specs.Names.{links, held_name}
-use Rattle.words.specs.Tags.{at, header_of, length_of, freeᵇ, left_freeᵇ, left_used, left_freed, right_of, footer_of, changed}
-use Rattle.words.specs.Links.{narrow, prev, next, link_at, set_link_at, node_link, set_sentinel, set_chunk_link}
+use Rattle.words.specs.Tags.{header_of, left_used, left_freed, right_of, changed}
+use Rattle.words.specs.Links.{narrow, prev, next, link_at, set_link_at, set_sentinel, set_chunk_link}
 use Rattle.words.specs.Numbers.{numbers}
 use Rattle.words.proofs.Laws.Numbers.{numbers_at, numbers_set}
 use Rattle.words.specs.Sizes.{class_of, start_of}

@@ -2,12 +2,11 @@
 --     missed_few          the first search compared few;  merged_none: nothing is cached, so that a second search would be the first
 --     emptied_served      the emptied heap may be searched
 --     merged_found, merged_nowhere, merged_lost     what a search of it says; where it finds nothing, the notes give the words at entry
-use mathlib.Core.Path.{◌≡◌, refl, sym, ap, ◌∙◌}
-use mathlib.Core.Bool.{Bool, true}
-use mathlib.Core.List.{List, [], ◌∷◌}
-use Prim.Native.Nat.{ℕ, ◌+◌, ◌*◌, ◌≤◌, ◌<◌}
+use mathlib.Core.Path.{◌≡◌, sym, ap, ◌∙◌}
+use mathlib.Core.List.{List, []}
+use Prim.Native.Nat.{ℕ, ◌+◌, ◌<◌}
 use native.Mathlib.Omega.{arith}
-use lib.ListN.{length, get_or}
+use lib.ListN.{length}
 use Rattle.words.specs.Numbers.{numbers}
 use Rattle.words.proofs.Laws.Numbers.{numbers_at}
 use Rattle.cache.proofs.Laws.{none_cached_lem}
@@ -22,7 +21,7 @@ use Rattle.steps.specs.Undone.{put_back}
 use Rattle.steps.proofs.Undone.{put_back_all, undo_whole}
 use Rattle.heap.specs.declared.record.Record.{Record}
 use Rattle.heap.specs.declared.undo.Noted.{Noted}
-use Rattle.heap.specs.declared.calls.Answer.TheVariants.{NoFit, Damaged}
+use Rattle.heap.specs.declared.calls.Answer.TheVariants.{NoFit}
 use Rattle.heap.specs.Seen.{seen, base, cached_in}
 use Rattle.heap.specs.Undoable.{Undoable}
 use Rattle.heap.specs.Answer.{outcome, sound_at, Served, Missed}

@@ -5,20 +5,20 @@
 use mathlib.Core.Path.{◌≡◌, refl, sym, ap, ◌∙◌}
 use mathlib.Core.Bool.{Bool, true, false}
 use mathlib.Core.List.{List, [], ◌∷◌, Memᴰ}
-use Prim.Native.Nat.{ℕ, ◌+◌, ◌-◌, ◌/◌, ◌^◌, ◌≤◌, ◌<◌}
+use Prim.Native.Nat.{ℕ, ◌+◌, ◌-◌, ◌^◌, ◌≤◌, ◌<◌}
 use native.Mathlib.Omega.{arith}
 use borrow.Author.Tests.{lt-ltb}
 use lib.ListN.{length, get_or}
 use Rattle.words.specs.Links.{narrow, prev, next, link_at, set_chunk_link}
 use Rattle.words.specs.Sizes.{class_of}
-use Rattle.words.specs.Tags.{right_of, footer_of, left_freed, changed}
+use Rattle.words.specs.Tags.{right_of, left_freed, changed}
 use Rattle.words.proofs.Laws.Sizes.{class_below}
 use Rattle.rules.specs.Rules.Making.{State}
 use Rattle.rules.specs.Rules.Steps.{unlink, link, mark_free, clear_left, merge, release_chunk}
 use Rattle.steps.specs.declared.merge.Merged.{Merged}
 use Rattle.steps.specs.Chunk.{freed, Releasable}
 use Rattle.steps.specs.Merged.{merged_in}
-use Rattle.steps.specs.Undone.{Room, Noting, Undoes, tag_places}
+use Rattle.steps.specs.Undone.{Room, Noting, tag_places}
 use Rattle.steps.proofs.Undone.{Changed, room_within, room_next, notes_more, undo_by, undo_none, undo_on, changes_none, changes_word, changes_node, changes_freed}
 use Rattle.heap.specs.declared.record.Record.{Record}
 use Rattle.heap.specs.declared.undo.Noted.{Noted}

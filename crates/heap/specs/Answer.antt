@@ -1,6 +1,6 @@
 -- DOCUMENT 01'S ANSWER NUMBERS: of each case of the answer its number, value and compared count; and an answer and the state after the call as the
 -- rules' outcome.
-use Rattle.std.specs.Prelude.{◌≡◌, Bool, true, ℕ, ◌≤◌, ◌<◌, ◌%◌}
+use Rattle.std.specs.Prelude.{◌≡◌, Bool, true, ℕ, ◌≤◌, ◌%◌}
 use Rattle.rules.specs.Rules.Calls.{Outcome, says, first_fit}
 use Rattle.rules.specs.Rules.Search.{at, nowhere}
 use Rattle.rules.specs.Rules.Making.{State}

@@ -1,7 +1,6 @@
 -- THE MARK (document 01): with the flag off, "unchanged"; with it on, high water − 108 × stacklets as a signed number, and the flag clears.
 use Rattle.std.specs.Prelude.{ℕ, zero, suc, ◌*◌, pos, ◌-ℤ◌}
 use Rattle.heap.specs.declared.record.Record.{Record}
-use Rattle.heap.specs.declared.record.Mark.{Mark}
 use Rattle.heap.specs.declared.record.Mark.TheVariants.{Unchanged, At}
 use Rattle.heap.specs.declared.record.Marked.{Marked}
 

@@ -1,7 +1,7 @@
 -- Laws of `specs/Rows.antt` and `specs/Layout.antt` on how long things are. Assumes nothing.
 --     length_line, length_lines    nineteen bytes for each row
 --     length_words                 three words for each row
---     length_map                   a row for each chunk
+--     length-map                   a row for each chunk
 use mathlib.Core.Path.{◌≡◌, refl, ap}
 use mathlib.Core.List.{List, [], ◌∷◌}
 use Prim.Native.Nat.{ℕ, suc, ◌+◌, ◌*◌}
@@ -30,7 +30,7 @@ length_words [] = refl
 length_words (r ∷ rs) = rw (length_words rs) (omega arith)
 
 -- a row for each chunk
-pub length_map : (ks : List ℕ) (b : ℕ) (cs : List Chunk) → length (map_of ks b cs) ≡ length cs
+pub length-map : (ks : List ℕ) (b : ℕ) (cs : List Chunk) → length (map_of ks b cs) ≡ length cs
 unfolding map_of
-length_map ks b [] = refl
-length_map ks b (c ∷ cs) = ap suc (length_map ks (b + c.len) cs)
+length-map ks b [] = refl
+length-map ks b (c ∷ cs) = ap suc (length-map ks (b + c.len) cs)

@@ -139,7 +139,8 @@ what_is_written places s room = (
 -- READING: bytes with a first bad line, the lines of a legal map into room that is too short, and into room enough
 pub what_is_read : (places : ℕ) (bs room : List ℕ)
     → ((k : ℕ) → FirstBad 65529 places bs k → read_into (read_all 65529 places bs) room ≡ says 7 k 0 room)
-    × ((rs : List Row) → LegalMap 65529 places rs → bs ≡ lines_of rs → length room < 3 * length rs → read_into (read_all 65529 places bs) room ≡ says 6 0 0 room)
+    × ((rs : List Row) → LegalMap 65529 places rs → bs ≡ lines_of rs → length room < 3 * length rs
+    → read_into (read_all 65529 places bs) room ≡ says 6 0 0 room)
     × ((rs : List Row) → LegalMap 65529 places rs → bs ≡ lines_of rs → 3 * length rs ≤ length room
     → read_into (read_all 65529 places bs) room ≡ says 0 (length rs) 0 (words_of rs ++ drop (3 * length rs) room))
 what_is_read places bs room = (

@@ -9,8 +9,8 @@ use Rattle.words.specs.Sizes.{class_of}
 use Rattle.words.specs.Links.{set_link_at}
 use Rattle.frame.specs.Hex.{digit_of, byte_of, digits_of}
 use Rattle.frame.specs.Answer.{answer_bytes}
-use Rattle.rules.specs.Rules.Steps.{unlink, link, set_left, clear_left, mark_free, mark_used, one_chunk, return_excess, take_chunk, left_free, right_free, merge, merged}
-use Rattle.rules.specs.Rules.Steps.{release_chunk, emptied, cleared}
+use Rattle.rules.specs.Rules.Steps.{unlink, link, set_left, clear_left, mark_free, mark_used, one_chunk, return_excess, take_chunk, left_free, right_free}
+use Rattle.rules.specs.Rules.Steps.{merge, merged, release_chunk, emptied, cleared}
 use Rattle.rules.specs.Rules.Search.{find, in_turn}
 use Rattle.rules.specs.Rules.Place.{used_at, tile}
 use Rattle.rules.specs.Rules.Lists.{walk}
@@ -48,10 +48,10 @@ worn_map = "110000000000000018\n100000001800000010\n120000002800000038\n10000000
 pub worn_written :
     written one.places worn (replicate 80 255) ∷ written one.places worn (replicate 75 255) ∷ []
     ≡ says 0 4 0 (bytes worn_map ++ replicate 4 255) ∷ says 6 0 0 (replicate 75 255) ∷ []
-unfolding written laid over rows_of map_of lines_of answer_bytes digits_of byte_of call hand_out take_back live choose listed make serve from_cache from_list from_merged
-    empty_cache first_fit settled link unlink set_left clear_left mark_free mark_used one_chunk return_excess take_chunk emptied cleared left_free right_free merge
-    merged release_chunk set_link_at class_of find in_turn used_at soundᵇ showsᵇ candidate legalᵇ calmᵇ tagsᵇ segᵇ belowᵇ everyᵇ slotᵇ exactᵇ distinctᵇ underᵇ
-    cacheᵇ figuresᵇ tile walk frees
+unfolding written laid over rows_of map_of lines_of answer_bytes digits_of byte_of call hand_out take_back live choose listed make serve from_cache from_list
+    from_merged empty_cache first_fit settled link unlink set_left clear_left mark_free mark_used one_chunk return_excess take_chunk emptied cleared left_free
+    right_free merge merged release_chunk set_link_at class_of find in_turn used_at soundᵇ showsᵇ candidate legalᵇ calmᵇ tagsᵇ segᵇ belowᵇ everyᵇ slotᵇ exactᵇ
+    distinctᵇ underᵇ cacheᵇ figuresᵇ tile walk frees
 worn_written = refl
 
 -- it is read, into words

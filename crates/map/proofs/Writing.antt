@@ -34,7 +34,7 @@ use Rattle.map.specs.Rows.{lines_of}
 use Rattle.map.specs.Layout.{kind_of, map_of}
 use Rattle.map.specs.Calls.{over, rows_of, written}
 use Rattle.map.specs.Writing.{chunks_in, chunk_at}
-use Rattle.map.proofs.Lines.{length_lines, length_map}
+use Rattle.map.proofs.Lines.{length_lines, length-map}
 use Rattle.map.proofs.Room.{over_from, over_none, over_append}
 use Rattle.map.proofs.Answers.{laid_fits, laid_short, written_sound}
 
@@ -144,7 +144,7 @@ module _ (places : ℕ) (r : Record) (ws room : List ℕ) (sound : sound_at plac
   -- its rows, and their bytes
   rows : length (rows_of (seen r ws)) ≡ n
   unfolding rows_of chunks_in
-  rows = length_map (cached_of (numbers r.cached)) 0 (tile (at ws) (length ws) 0) ∙ sym en
+  rows = length-map (cached_of (numbers r.cached)) 0 (tile (at ws) (length ws) 0) ∙ sym en
 
   bytes : length (lines_of (rows_of (seen r ws))) ≡ 19 * n
   bytes = length_lines (rows_of (seen r ws)) ∙ ap (λ (k : ℕ). 19 * k) rows

@@ -23,7 +23,6 @@ use Rattle.rules.specs.Demands.Meaning.{NoneServes, FromCache, FromList, FromMer
 use Rattle.rules.specs.Demands.Demands.{Demands, Iff, Allowable, numbers_of}
 use Rattle.rules.proofs.Demands.Proved.{narrow_demands}
 use Rattle.rules.proofs.Demands.Promises.{narrow_promises}
-use Rattle.words.specs.Numbers.{numbers}
 use Rattle.heap.specs.declared.record.Record.{Record}
 use Rattle.heap.specs.declared.calls.Out.{Out}
 use Rattle.heap.specs.Seen.{seen, base}
