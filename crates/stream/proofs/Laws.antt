@@ -4,7 +4,6 @@ use mathlib.Core.Bool.{Bool, true, false, false≢true}
 use mathlib.Core.List.{List, [], ◌++◌}
 use Prim.Native.Nat.{ℕ, ◌+◌, ◌-◌, ◌*◌, ◌≤◌, ◌<◌, min}
 use native.Mathlib.Omega.{arith}
-use lib.Dec.{leb, ltb}
 use lib.ListN.{length, take, length-append}
 use lib.Seq.{length-take-le}
 use borrow.Author.Tests.{le-leb, lt-leb, lt-ltb, le-ltb, ltb-true}
@@ -23,7 +22,7 @@ use Rattle.feed.proofs.Whole.{steps_after, all_answers, whole_from}
 use Rattle.rules.specs.Rules.Making.{empty}
 use Rattle.stream.specs.declared.step.Stream.{Stream}
 use Rattle.stream.specs.Stepping.{ended, counted, fails, piece_of, Takes, Next, Writes}
-use Rattle.stream.specs.Ran.{most, at_first, Ran, Going, Answered}
+use Rattle.stream.specs.Ran.{most, at_first, Going, Answered}
 
 -- ---- one step
 
@@ -93,19 +92,25 @@ last_length os l n h k e = sym (length-take-le n os (omega arith)) ∙ ap length
 
 -- ---- a run
 
+-- a run begins with the empty record and no line
+pub first_stands : (places : ℕ) (memory : List ℕ) (t : Trace) → t.rec ≡ empty_record → text_of t.line ≡ []
+    → standing t memory [] ≡ steps places (at_first memory) []
+unfolding cached_of
+first_stands places memory t r l =
+    ap (λ (x : Record). on_line (seen x memory) (text_of t.line) []) r
+    ∙ ap (λ (x : List ℕ). on_line (empty memory) x []) l
+    ∙ steps_none _ _
+
 -- before the first byte
 pub going_first : {places : ℕ} (a : Bool) (memory : List ℕ) (s : Stream)
     → s.trace.rec ≡ empty_record → text_of s.trace.line ≡ [] → s.left ≡ most → s.written ≡ 0
     → Going places a memory s memory
-unfolding cached_of
 going_first a memory s r l n w =
     record {
       ran = record {
         input = [];
         answers = [];
-        stands = ap (λ (x : Record). on_line (seen x memory) (text_of s.trace.line) []) r
-            ∙ ap (λ (x : List ℕ). on_line (empty memory) x []) l
-            ∙ steps_none _ _;
+        stands = first_stands _ memory s.trace r l;
         counted = omega (arith, n);
       };
       written = λ _. w;

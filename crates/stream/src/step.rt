@@ -1,10 +1,11 @@
 // One step: a read, and its bytes fed. Contracts cite specs/Stepping.antt.
-ghost use Rattle.std.specs.Prelude.{◌≡◌, ◌*◌, ◌≤◌, length, false, []};
+ghost use Rattle.std.specs.Prelude.{◌≡◌, ◌*◌, ◌≤◌, length, true, false, []};
 ghost use Rattle.heap.specs.Seen.{empty_record};
 ghost use Rattle.heap.specs.Kind.{places_of};
 ghost use Rattle.feed.specs.Reading.{text_of};
 ghost use Rattle.stream.specs.Stepping.{ended, counted, fails, piece_of, Takes, Next};
 ghost use Rattle.stream.specs.Ran.{most};
+ghost use Rattle.stream.specs.Bytes.{Reads};
 
 use feed::Trace;
 use heap::Kind;
@@ -33,7 +34,8 @@ pub struct Stream {
 impl Stream {
     // Nothing read yet.
     pub fn start() -> Stream
-        ensures { (result.trace.rec ≡ empty_record) × (text_of result.trace.line ≡ []) × (result.left ≡ most) × (result.written ≡ 0) }
+        ensures empty { (result.trace.rec ≡ empty_record) × (text_of result.trace.line ≡ []) × (result.left ≡ most) × (result.written ≡ 0) }
+        ensures goes { (result.more ≡ true) × (result.failed ≡ false) }
     {
         let trace = Trace::start();
         Stream {
@@ -77,8 +79,9 @@ fn take_in(
     kind: Kind,
 ) -> Stream
     requires { 19 * length input.now ≤ length out.old }
-    ensures { Takes (places_of kind) before (piece_of before.left got input.now) memory.old result memory.new out.new
+    ensures takes { Takes (places_of kind) before (piece_of before.left got input.now) memory.old result memory.new out.new
         × (result.more ≡ false → result.failed ≡ fails before.left got (length input.now)) }
+    ensures goes { result.more ≡ true → result.failed ≡ false }
 {
     let count = count(got, input);
     if count == 0 {
@@ -109,7 +112,8 @@ pub fn next<R: Read>(
     out: &mut [u8],
     kind: Kind,
 ) -> Stream
-    ensures { Next (places_of kind) before memory.old result memory.new out.new }
+    ensures next { Next (places_of kind) before memory.old result memory.new out.new }
+    ensures bytes { Reads (places_of kind) before memory.old result memory.new out.new (length input.old) (R.remaining reader.old) (R.remaining reader.new) }
 {
     if out.len() / 19 < input.len() {
         return before.ended(true);
