@@ -1,4 +1,4 @@
-// The kernel's door: what firmware links (include/lischemur.h declares it for C).
+// The kernel's door: what firmware links (include/lischemur.h declares it for C, crate `door_c` exports it).
 //
 // Making, handing out and taking back change a record where it lies; document 01 lets no other call do so. The others take the
 // record by value, which on x86-64 is how C passes and returns a struct of this size: the audit, the map and the four readers leave it
@@ -33,8 +33,7 @@ pub use reply::{Marking, Replied, Reply};
 use reply::{map_reply, marking_of};
 
 // Makes a heap of the whole slice, which must have `words` words. After a 6 the record is as it was.
-#[unsafe(no_mangle)]
-pub extern "C" fn lischemur_make_needs_library_of_layout_4(
+pub fn lischemur_make_needs_library_of_layout_4(
     rec: &mut Record,
     heap: &mut [u32],
     words: u32,
@@ -47,8 +46,7 @@ pub extern "C" fn lischemur_make_needs_library_of_layout_4(
 }
 
 // Hands out a payload of at least `size` bytes.
-#[unsafe(no_mangle)]
-pub extern "C" fn lischemur_hand_out_needs_library_of_layout_4(
+pub fn lischemur_hand_out_needs_library_of_layout_4(
     rec: &mut Record,
     heap: &mut [u32],
     size: u32,
@@ -61,8 +59,7 @@ pub extern "C" fn lischemur_hand_out_needs_library_of_layout_4(
 }
 
 // Takes back the payload that begins at this offset.
-#[unsafe(no_mangle)]
-pub extern "C" fn lischemur_take_back_needs_library_of_layout_4(
+pub fn lischemur_take_back_needs_library_of_layout_4(
     rec: &mut Record,
     heap: &mut [u32],
     payload: u32,
@@ -75,8 +72,7 @@ pub extern "C" fn lischemur_take_back_needs_library_of_layout_4(
 }
 
 // Whether the record and these words are sound: 1 or 0.
-#[unsafe(no_mangle)]
-pub extern "C" fn lischemur_audit_needs_library_of_layout_4(rec: Record, heap: &[u32]) -> u32
+pub fn lischemur_audit_needs_library_of_layout_4(rec: Record, heap: &[u32]) -> u32
     ensures { result ≡ bit (sound_at four.places (seen rec heap.now)) }
 {
     let sound = rec.audit(heap, Kind::Four);
@@ -85,8 +81,7 @@ pub extern "C" fn lischemur_audit_needs_library_of_layout_4(rec: Record, heap: &
 
 // Writes the heap's map at the start of the room, a line for each chunk, and replies how many: 5 if the heap is damaged, else 6 if the
 // room is too short.
-#[unsafe(no_mangle)]
-pub extern "C" fn lischemur_write_map_needs_library_of_layout_4(
+pub fn lischemur_write_map_needs_library_of_layout_4(
     rec: Record,
     heap: &[u32],
     room: &mut [u8],
@@ -98,8 +93,7 @@ pub extern "C" fn lischemur_write_map_needs_library_of_layout_4(
 }
 
 // The mark, if high water has risen, and the record with its flag off.
-#[unsafe(no_mangle)]
-pub extern "C" fn lischemur_mark_needs_library_of_layout_4(rec: Record, stacklets: u32) -> Marking
+pub fn lischemur_mark_needs_library_of_layout_4(rec: Record, stacklets: u32) -> Marking
     ensures { result ≡ marking_by (mark_of rec stacklets) }
 {
     let marked = rec.mark(stacklets);
@@ -108,40 +102,35 @@ pub extern "C" fn lischemur_mark_needs_library_of_layout_4(rec: Record, stacklet
 }
 
 // Bytes in use, as tasks hold them.
-#[unsafe(no_mangle)]
-pub extern "C" fn lischemur_in_use_needs_library_of_layout_4(rec: Record) -> u32
+pub fn lischemur_in_use_needs_library_of_layout_4(rec: Record) -> u32
     ensures { result ≡ rec.in_use }
 {
     rec.in_use()
 }
 
 // Bytes committed: those in use, and those of the cached chunks.
-#[unsafe(no_mangle)]
-pub extern "C" fn lischemur_committed_needs_library_of_layout_4(rec: Record) -> u32
+pub fn lischemur_committed_needs_library_of_layout_4(rec: Record) -> u32
     ensures { result ≡ rec.committed }
 {
     rec.committed()
 }
 
 // The most bytes that were ever committed.
-#[unsafe(no_mangle)]
-pub extern "C" fn lischemur_peak_needs_library_of_layout_4(rec: Record) -> u32
+pub fn lischemur_peak_needs_library_of_layout_4(rec: Record) -> u32
     ensures { result ≡ rec.peak }
 {
     rec.peak()
 }
 
 // High water: the largest end of a chunk that was handed out.
-#[unsafe(no_mangle)]
-pub extern "C" fn lischemur_high_water_needs_library_of_layout_4(rec: Record) -> u32
+pub fn lischemur_high_water_needs_library_of_layout_4(rec: Record) -> u32
     ensures { result ≡ rec.high }
 {
     rec.high_water()
 }
 
 // ONE CACHE PLACE. Hands out a payload of at least `size` bytes.
-#[unsafe(no_mangle)]
-pub extern "C" fn lischemur_one_hand_out_needs_library_of_layout_4(
+pub fn lischemur_one_hand_out_needs_library_of_layout_4(
     rec: &mut Record,
     heap: &mut [u32],
     size: u32,
@@ -154,8 +143,7 @@ pub extern "C" fn lischemur_one_hand_out_needs_library_of_layout_4(
 }
 
 // Takes back the payload that begins at this offset, with one cache place.
-#[unsafe(no_mangle)]
-pub extern "C" fn lischemur_one_take_back_needs_library_of_layout_4(
+pub fn lischemur_one_take_back_needs_library_of_layout_4(
     rec: &mut Record,
     heap: &mut [u32],
     payload: u32,
@@ -168,8 +156,7 @@ pub extern "C" fn lischemur_one_take_back_needs_library_of_layout_4(
 }
 
 // Whether the record and these words are sound with one cache place: 1 or 0.
-#[unsafe(no_mangle)]
-pub extern "C" fn lischemur_one_audit_needs_library_of_layout_4(rec: Record, heap: &[u32]) -> u32
+pub fn lischemur_one_audit_needs_library_of_layout_4(rec: Record, heap: &[u32]) -> u32
     ensures { result ≡ bit (sound_at one.places (seen rec heap.now)) }
 {
     let sound = rec.audit(heap, Kind::One);
@@ -177,8 +164,7 @@ pub extern "C" fn lischemur_one_audit_needs_library_of_layout_4(rec: Record, hea
 }
 
 // Writes the map of a heap with one cache place.
-#[unsafe(no_mangle)]
-pub extern "C" fn lischemur_one_write_map_needs_library_of_layout_4(
+pub fn lischemur_one_write_map_needs_library_of_layout_4(
     rec: Record,
     heap: &[u32],
     room: &mut [u8],
