@@ -7,10 +7,17 @@
 
 use heap::{Kind, Record};
 use map::Answer;
+use std::io::Write;
 
-fn main() {
+fn main(rt: HostRuntime) {
     let mut memory = [0u32; 16383];
-    let ran = stream::run(&mut memory, false, Kind::Four);
+    let ran = stream::run(
+        &mut rt.stdin(),
+        &mut rt.stdout(),
+        &mut memory,
+        false,
+        Kind::Four,
+    );
     if ran.failed {
         return;
     }
@@ -20,7 +27,7 @@ fn main() {
     let mut room = [0u8; 77824];
     let n = fill(rec, &memory, &mut room);
     if n <= 77824 {
-        io::write_all(1, &room[0..n]);
+        let _ = rt.stdout().write_all(&room[0..n]);
     }
 }
 

@@ -12,6 +12,7 @@ ghost use Rattle.std.specs.Prelude.{◌≡◌, true, ◌≤◌, ◌<◌, length}
 
 use heap::Kind;
 use map::Answer;
+use std::io::{Read, Write};
 
 // What was read of the input.
 #[derive(Clone, Copy)]
@@ -24,9 +25,9 @@ pub struct Whole {
     pub failed: bool,
 }
 
-fn main() {
+fn main(rt: HostRuntime) {
     let mut text = [0u8; 311277];
-    let whole = read_whole(&mut text);
+    let whole = read_whole(&mut rt.stdin(), &mut text);
     if whole.failed {
         return;
     }
@@ -35,11 +36,11 @@ fn main() {
     let answer = map::read_map(&text[0..len], &mut room, Kind::Four);
     let mut out = [0u8; 19];
     write_reply(answer, &mut out);
-    io::write_all(1, &out);
+    let _ = rt.stdout().write_all(&out);
 }
 
 // Reads until the text is full, the input ends or a read fails.
-fn read_whole(text: &mut [u8]) -> Whole
+fn read_whole<R: Read>(reader: &mut R, text: &mut [u8]) -> Whole
     ensures { result.len ≤ length text.new }
 {
     let mut w = Whole {
@@ -48,24 +49,28 @@ fn read_whole(text: &mut [u8]) -> Whole
         failed: false,
     };
     while w.more {
-        w = read_on(w, text);
+        w = read_on(reader, w, text);
     }
     w
 }
 
 // One read, behind what was read before.
-fn read_on(before: Whole, text: &mut [u8]) -> Whole
+fn read_on<R: Read>(reader: &mut R, before: Whole, text: &mut [u8]) -> Whole
     requires { before.len ≤ length text.old }
     ensures { (before.len ≤ result.len) × (result.len ≤ length text.old) × (result.more ≡ true → before.len < result.len) }
 {
     let len = before.len;
-    let rest = &mut text[len..];
-    let got = libc::read(0, rest);
-    let count = io::count(got, rest);
-    Whole {
-        len: len + count,
-        more: 0 < count,
-        failed: got < 0,
+    match reader.read(&mut text[len..]) {
+        Ok(count) => Whole {
+            len: len + count,
+            more: 0 < count,
+            failed: false,
+        },
+        Err(_) => Whole {
+            len,
+            more: false,
+            failed: true,
+        },
     }
 }
 

@@ -11,26 +11,39 @@
 
 use heap::{Kind, Record};
 use map::Answer;
+use std::io::{Read, Write};
 use stream::Stream;
 use words::Link;
 
-fn main() {
+fn main(rt: HostRuntime) {
     let mut memory = [0u32; 16383];
     let mut input = [0u8; 1];
     // an answer line, 22 numbers of the record and 16,383 words of 9 bytes each, a line feed, and 4,095 lines of a map
     let mut room = [0u8; 225470];
-    replay(&mut memory, &mut input, &mut room);
+    replay(
+        &mut rt.stdin(),
+        &mut rt.stdout(),
+        &mut memory,
+        &mut input,
+        &mut room,
+    );
 }
 
 // Reads byte by byte, and writes what there is to show after each line.
-fn replay(memory: &mut [u32], input: &mut [u8], room: &mut [u8]) {
+fn replay<R: Read, W: Write>(
+    reader: &mut R,
+    writer: &mut W,
+    memory: &mut [u32],
+    input: &mut [u8],
+    room: &mut [u8],
+) {
     let mut s = Stream::start();
     while s.more {
-        s = stream::next(s, memory, input, room, Kind::One);
+        s = stream::next(reader, s, memory, input, room, Kind::One);
         if 0 < s.filled {
             let trace = s.trace;
             let end = show(room, s.filled, trace.rec, memory);
-            if !write(room, end) {
+            if !write(writer, room, end) {
                 return;
             }
         }
@@ -38,11 +51,11 @@ fn replay(memory: &mut [u32], input: &mut [u8], room: &mut [u8]) {
 }
 
 // Writes the start of the room.
-fn write(room: &[u8], n: usize) -> bool {
+fn write<W: Write>(writer: &mut W, room: &[u8], n: usize) -> bool {
     if room.len() < n {
         return false;
     }
-    io::write_all(1, &room[0..n])
+    writer.write_all(&room[0..n]).is_ok()
 }
 
 // Puts the whole state on a line, and the map after it. Returns where the next byte goes, as every put does.

@@ -4,20 +4,14 @@ use mathlib.Core.Bool.{Bool, true, false, false≢true}
 use mathlib.Core.List.{List, [], ◌++◌}
 use Prim.Native.Nat.{ℕ, ◌+◌, ◌-◌, ◌*◌, ◌≤◌, ◌<◌, min}
 use native.Mathlib.Omega.{arith}
-use lib.Dec.{leb, ltb}
-use lib.IntN.{ℤ, pos, negsuc}
-use lib.Signed.{lt_z}
-use mir.Syntax.{w64}
-use mir.Val.{SFits, to_z, of_z}
-use mir.ValLaws.{to_z-of_z}
 use lib.ListN.{length, take, length-append}
 use lib.Seq.{length-take-le}
 use borrow.Author.Tests.{le-leb, lt-leb, lt-ltb, le-ltb, ltb-true}
+use Rattle.std.specs.Prelude.{Result, Ok, Err, is_err}
 use Rattle.words.specs.Choice.{pick}
 use Rattle.heap.specs.declared.record.Record.{Record}
 use Rattle.cache.specs.Places.{cached_of}
 use Rattle.heap.specs.Seen.{seen, empty_record}
-use Rattle.io.specs.Counts.{clamp_len}
 use Rattle.feed.specs.declared.pieces.Trace.{Trace}
 use Rattle.feed.specs.Reading.{text_of}
 use Rattle.feed.specs.declared.pieces.Fed.{Fed}
@@ -27,8 +21,8 @@ use Rattle.feed.proofs.Laws.{on_line, steps_none, all_taken}
 use Rattle.feed.proofs.Whole.{steps_after, all_answers, whole_from}
 use Rattle.rules.specs.Rules.Making.{empty}
 use Rattle.stream.specs.declared.step.Stream.{Stream}
-use Rattle.stream.specs.Stepping.{ended, fails, piece_of, Takes, Next, Writes}
-use Rattle.stream.specs.Ran.{most, at_first, Ran, Going, Answered}
+use Rattle.stream.specs.Stepping.{ended, counted, fails, piece_of, Takes, Next, Writes}
+use Rattle.stream.specs.Ran.{most, at_first, Going, Answered}
 
 -- ---- one step
 
@@ -38,16 +32,16 @@ takes_none s b memory out =
     record { stands = steps_none _ _; counts = omega arith; goes = refl; fits = omega arith; each = omega arith; same = refl }
 
 -- no piece: the read gave nothing, or more than may still be read
-pub piece_none : (left n : ℕ) (got : ℤ) (input : List ℕ) → n ≡ clamp_len got (length input) → n ≡ 0 → piece_of left got input ≡ []
+pub piece_none : {E : Type 0} (left n : ℕ) (got : Result ℕ E) (input : List ℕ) → n ≡ counted got (length input) → n ≡ 0 → piece_of left got input ≡ []
 unfolding piece_of
 piece_none left n got input e z = rw (sym e, z, le-leb 0 left (omega arith))
 
-pub piece_over : (left n : ℕ) (got : ℤ) (input : List ℕ) → n ≡ clamp_len got (length input) → left < n → piece_of left got input ≡ []
+pub piece_over : {E : Type 0} (left n : ℕ) (got : Result ℕ E) (input : List ℕ) → n ≡ counted got (length input) → left < n → piece_of left got input ≡ []
 unfolding piece_of
 piece_over left n got input e h = rw (sym e, lt-leb n left h)
 
 -- a piece: the first bytes of the buffer
-piece_is : (left n : ℕ) (got : ℤ) (input : List ℕ) → n ≡ clamp_len got (length input) → n ≤ left → piece_of left got input ≡ take n input
+piece_is : {E : Type 0} (left n : ℕ) (got : Result ℕ E) (input : List ℕ) → n ≡ counted got (length input) → n ≤ left → piece_of left got input ≡ take n input
 unfolding piece_of
 piece_is left n got input e h = rw (sym e, le-leb n left h)
 
@@ -55,24 +49,22 @@ pub takes_end : {places : ℕ} (s r : Stream) (b : Bool) (piece memory out : Lis
 takes_end s r b piece memory out e f = rw (e, f) (takes_none s b memory out)
 
 -- at an end it is known whether the run failed
-pub fails_none : (left n k : ℕ) (got : ℤ) → n ≡ clamp_len got k → n ≡ 0 → lt_z got (pos 0) ≡ fails left got k
-fails_none left n k (pos m) e z = le-ltb m 0 (omega arith) ∙ sym (le-ltb left (min m k) (omega (arith, e, z)))
-fails_none left n k (negsuc m) e z = refl
+pub fails_none : {E : Type 0} (left n k : ℕ) (got : Result ℕ E) → n ≡ counted got k → n ≡ 0 → is_err got ≡ fails left got k
+fails_none left n k (Ok m) e z = sym (le-ltb left (min m k) (omega (arith, e, z)))
+fails_none left n k (Err x) e z = refl
 
-pub fails_over : (left n k : ℕ) (got : ℤ) → n ≡ clamp_len got k → left < n → true ≡ fails left got k
-fails_over left n k (pos m) e h = sym (lt-ltb left (min m k) (omega (arith, e, h)))
-fails_over left n k (negsuc m) e h = refl
+pub fails_over : {E : Type 0} (left n k : ℕ) (got : Result ℕ E) → n ≡ counted got k → left < n → true ≡ fails left got k
+fails_over left n k (Ok m) e h = sym (lt-ltb left (min m k) (omega (arith, e, h)))
+fails_over left n k (Err x) e h = refl
 
--- an answer's bits are read back as the answer
-pub counted_as : (got : ℤ) (n k : ℕ) → SFits w64 got → n ≡ clamp_len (to_z w64 (of_z w64 got)) k → n ≡ clamp_len got k
-counted_as got n k f e = e ∙ ap (λ (z : ℤ). clamp_len z k) (to_z-of_z w64 got f)
-
-pub below_as : (got : ℤ) → SFits w64 got → lt_z (to_z w64 (of_z w64 got)) (pos 0) ≡ lt_z got (pos 0)
-below_as got f = ap (λ (z : ℤ). lt_z z (pos 0)) (to_z-of_z w64 got f)
+-- a read gives no more than was lent
+pub counted_within : {E : Type 0} (got : Result ℕ E) (k : ℕ) → counted got k ≤ k
+counted_within (Ok m) k = omega arith
+counted_within (Err x) k = omega arith
 
 -- a piece fed whole
-pub takes_fed : {places : ℕ} (s : Stream) (f : Fed) (got : ℤ) (n : ℕ) (memory input out memory' out' : List ℕ)
-    → n ≡ clamp_len got (length input) → n ≤ length input → 0 < n → n ≤ s.left → 19 * length input ≤ length out → length out' ≡ length out
+pub takes_fed : {places : ℕ} {E : Type 0} (s : Stream) (f : Fed) (got : Result ℕ E) (n : ℕ) (memory input out memory' out' : List ℕ)
+    → n ≡ counted got (length input) → n ≤ length input → 0 < n → n ≤ s.left → 19 * length input ≤ length out → length out' ≡ length out
     → stands f memory' out' ≡ steps places (standing s.trace memory []) (take f.taken (take n input))
     → f.filled ≤ length out → (f.taken < length (take n input) → length out < f.filled + 19) → f.filled ≤ 19 * f.taken → f.taken ≤ length (take n input)
     → Takes places s (piece_of s.left got input) memory
@@ -100,19 +92,25 @@ last_length os l n h k e = sym (length-take-le n os (omega arith)) ∙ ap length
 
 -- ---- a run
 
+-- a run begins with the empty record and no line
+pub first_stands : (places : ℕ) (memory : List ℕ) (t : Trace) → t.rec ≡ empty_record → text_of t.line ≡ []
+    → standing t memory [] ≡ steps places (at_first memory) []
+unfolding cached_of
+first_stands places memory t r l =
+    ap (λ (x : Record). on_line (seen x memory) (text_of t.line) []) r
+    ∙ ap (λ (x : List ℕ). on_line (empty memory) x []) l
+    ∙ steps_none _ _
+
 -- before the first byte
 pub going_first : {places : ℕ} (a : Bool) (memory : List ℕ) (s : Stream)
     → s.trace.rec ≡ empty_record → text_of s.trace.line ≡ [] → s.left ≡ most → s.written ≡ 0
     → Going places a memory s memory
-unfolding cached_of
 going_first a memory s r l n w =
     record {
       ran = record {
         input = [];
         answers = [];
-        stands = ap (λ (x : Record). on_line (seen x memory) (text_of s.trace.line) []) r
-            ∙ ap (λ (x : List ℕ). on_line (empty memory) x []) l
-            ∙ steps_none _ _;
+        stands = first_stands _ memory s.trace r l;
         counted = omega (arith, n);
       };
       written = λ _. w;

@@ -1,2 +1,3 @@
 -- The laws behind the proofs.
 pub mod Laws
+pub mod Bytes

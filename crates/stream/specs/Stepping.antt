@@ -1,7 +1,6 @@
 -- ONE STEP: the bytes that a read gave, counted and fed.
-use Rattle.std.specs.Prelude.{◌≡◌, Bool, true, false, List, [], ℕ, ◌+◌, ◌*◌, ◌≤◌, min, leb, ltb, ℤ, pos, negsuc, length, take}
+use Rattle.std.specs.Prelude.{◌≡◌, Bool, true, false, List, [], ℕ, ◌+◌, ◌*◌, ◌≤◌, min, leb, ltb, length, take, Result, Ok, Err}
 use Rattle.words.specs.Choice.{pick}
-use Rattle.io.specs.Counts.{clamp_len}
 use Rattle.feed.specs.Feeding.{standing, steps}
 use Rattle.stream.specs.declared.step.Stream.{Stream}
 
@@ -9,14 +8,19 @@ use Rattle.stream.specs.declared.step.Stream.{Stream}
 abbrev pub ended : Stream → Bool → Stream
 ended s failed = record { trace = s.trace; left = s.left; filled = 0; written = s.written; more = false; failed = failed }
 
+-- how many of n lent bytes a read gave, by its answer: none if it failed, and never more than were lent
+abbrev pub counted : {E : Type 0} → Result ℕ E → ℕ → ℕ
+counted (Ok k) n = min k n
+counted (Err e) n = 0
+
 -- a failure: the read of n lent bytes failed, or gave more than may still be read
-abbrev pub fails : ℕ → ℤ → ℕ → Bool
-fails left (pos k) n = ltb left (min k n)
-fails left (negsuc k) n = true
+abbrev pub fails : {E : Type 0} → ℕ → Result ℕ E → ℕ → Bool
+fails left (Ok k) n = ltb left (min k n)
+fails left (Err e) n = true
 
 -- THE PIECE that a read gave, by its answer and the buffer; none if it has more bytes than may still be read
-unfoldable pub piece_of : ℕ → ℤ → List ℕ → List ℕ
-piece_of left got input = pick (leb (clamp_len got (length input)) left) (take (clamp_len got (length input)) input) []
+unfoldable pub piece_of : {E : Type 0} → ℕ → Result ℕ E → List ℕ → List ℕ
+piece_of left got input = pick (leb (counted got (length input)) left) (take (counted got (length input)) input) []
 
 -- A PIECE TAKEN: it is fed and counted, each byte of it, and its answers stand at the start of the room
 pub record Takes (places : ℕ) (s : Stream) (piece memory : List ℕ) (r : Stream) (memory' out' : List ℕ) : Type 0 where

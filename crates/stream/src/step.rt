@@ -1,13 +1,15 @@
 // One step: a read, and its bytes fed. Contracts cite specs/Stepping.antt.
-ghost use Rattle.std.specs.Prelude.{◌≡◌, ◌*◌, ◌≤◌, length, false, []};
+ghost use Rattle.std.specs.Prelude.{◌≡◌, ◌*◌, ◌≤◌, length, true, false, []};
 ghost use Rattle.heap.specs.Seen.{empty_record};
 ghost use Rattle.heap.specs.Kind.{places_of};
 ghost use Rattle.feed.specs.Reading.{text_of};
-ghost use Rattle.stream.specs.Stepping.{ended, fails, piece_of, Takes, Next};
+ghost use Rattle.stream.specs.Stepping.{ended, counted, fails, piece_of, Takes, Next};
 ghost use Rattle.stream.specs.Ran.{most};
+ghost use Rattle.stream.specs.Bytes.{Reads};
 
 use feed::Trace;
 use heap::Kind;
+use std::io::{self, Read};
 
 // How many bytes are read at most: the answers to them, nineteen for each, can still be counted. Nothing says that the input ends.
 const MOST: usize = 970881267037344820;
@@ -32,7 +34,8 @@ pub struct Stream {
 impl Stream {
     // Nothing read yet.
     pub fn start() -> Stream
-        ensures { (result.trace.rec ≡ empty_record) × (text_of result.trace.line ≡ []) × (result.left ≡ most) × (result.written ≡ 0) }
+        ensures empty { (result.trace.rec ≡ empty_record) × (text_of result.trace.line ≡ []) × (result.left ≡ most) × (result.written ≡ 0) }
+        ensures goes { (result.more ≡ true) × (result.failed ≡ false) }
     {
         let trace = Trace::start();
         Stream {
@@ -56,22 +59,33 @@ impl Stream {
     }
 }
 
+// How many bytes at the start of the buffer a read gave, by its answer: none if it failed, and never more than there are.
+fn count(got: io::Result<usize>, input: &[u8]) -> usize
+    ensures { result ≡ counted got (length input.now) }
+{
+    match got {
+        Ok(n) => n.min(input.len()),
+        Err(_) => 0,
+    }
+}
+
 // What the answer of a read leads to: the bytes that it gave are counted and fed.
 fn take_in(
     before: Stream,
-    got: isize,
+    got: io::Result<usize>,
     memory: &mut [u32],
     input: &[u8],
     out: &mut [u8],
     kind: Kind,
 ) -> Stream
     requires { 19 * length input.now ≤ length out.old }
-    ensures { Takes (places_of kind) before (piece_of before.left got input.now) memory.old result memory.new out.new
+    ensures takes { Takes (places_of kind) before (piece_of before.left got input.now) memory.old result memory.new out.new
         × (result.more ≡ false → result.failed ≡ fails before.left got (length input.now)) }
+    ensures goes { result.more ≡ true → result.failed ≡ false }
 {
-    let count = io::count(got, input);
+    let count = count(got, input);
     if count == 0 {
-        return before.ended(got < 0);
+        return before.ended(got.is_err());
     }
     if before.left < count {
         return before.ended(true);
@@ -90,18 +104,20 @@ fn take_in(
 }
 
 // Reads once and feeds what was read. The room has to have nineteen bytes for each that is lent to the read.
-pub fn next(
+pub fn next<R: Read>(
+    reader: &mut R,
     before: Stream,
     memory: &mut [u32],
     input: &mut [u8],
     out: &mut [u8],
     kind: Kind,
 ) -> Stream
-    ensures { Next (places_of kind) before memory.old result memory.new out.new }
+    ensures next { Next (places_of kind) before memory.old result memory.new out.new }
+    ensures bytes { Reads (places_of kind) before memory.old result memory.new out.new (length input.old) (R.remaining reader.old) (R.remaining reader.new) }
 {
     if out.len() / 19 < input.len() {
         return before.ended(true);
     }
-    let got = libc::read(0, input);
+    let got = reader.read(input);
     take_in(before, got, memory, input, out, kind)
 }
