@@ -1,4 +1,4 @@
-// One step: a read, and its bytes fed. Contracts cite specs/Stepping.antt.
+// One step: a read, and its bytes fed. Contracts cite specs/Stepping.antt and specs/Bytes.antt.
 ghost use Rattle.std.specs.Prelude.{◌≡◌, ◌*◌, ◌≤◌, length, true, false, []};
 ghost use Rattle.heap.specs.Seen.{empty_record};
 ghost use Rattle.heap.specs.Kind.{places_of};

@@ -1,4 +1,4 @@
-// The whole input. Contracts cite specs/Ran.antt.
+// The whole input. Contracts cite specs/Ran.antt and specs/Bytes.antt.
 ghost use Rattle.std.specs.Prelude.{◌≡◌, ◌+◌, ◌≤◌, length, take, false, IfSome};
 ghost use Rattle.heap.specs.Kind.{places_of};
 ghost use Rattle.feed.specs.Reading.{text_of};
