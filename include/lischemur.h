@@ -22,9 +22,9 @@
  *   - record, words and room do not overlap, and nothing else reads or writes them during a call (mask interrupts, or hold
  *     a lock).
  *
- * A Rattle slice is a pointer and a 64-bit count in C, on every processor. `./run lib DIR` builds the library for this computer,
- * x86-64 or 64-bit Arm, and with --cpu NAME for Cortex-M and 32-bit RISC-V; the assertions at the end of this file stop a compiler
- * that lays things out differently.
+ * A Rattle slice is a pointer and a 64-bit count in C, on every processor. `./run lib DIR` builds the library for Linux on x86-64,
+ * with --cpu aarch64 for 64-bit Arm, and with --cpu NAME for Cortex-M and 32-bit RISC-V; the assertions at the end of this file stop
+ * a compiler that lays things out differently.
  *
  * What the library calls but does not contain, since every C program for the processor links it anyway (-lc -lgcc, say):
  *   64 bits    memset, on x86-64 and on 64-bit Arm

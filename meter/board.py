@@ -5,7 +5,6 @@ program with status 1.
 """
 
 import os
-import platform
 import shutil
 import subprocess
 import sys
@@ -95,18 +94,10 @@ def run(what, *command, **options):
     return done.stdout + done.stderr
 
 
-def x86_64(path):
-    """The command that runs a program for x86-64: on another computer the toolchain's emulator does."""
-    if platform.machine() == "x86_64":
-        return [path]
-    tools = os.path.join(os.path.dirname(os.path.dirname(run("rt doc", "rt", "doc").strip())), "on", platform.machine(), "toolchain")
-    return [os.path.join(tools, "bin", "qemu-x86_64"), os.path.join(tools, "lib", "ld-linux-x86-64.so.2"), "--library-path", os.path.join(tools, "lib"), path]
-
-
 def proved(name):
     """The command that runs a proved program, or nothing if it is not built."""
-    path = os.path.join(ROOT, "target", "bin", name)
-    return x86_64(path) if os.path.exists(path) else None
+    path = os.path.join(ROOT, "crates", name, "out", name)
+    return [path] if os.path.exists(path) else None
 
 
 def missing(*tools):

@@ -1,16 +1,20 @@
 //! Says where the archive with the proved functions lies, for the target that is built for: in the folder
-//! that `LISCHEMUR_LIB` names, else in this repository's `target`, where `tools/library` puts the one for
-//! the computer it runs on and `meter/build` those for microcontrollers. A target that has none is refused.
+//! that `LISCHEMUR_LIB` names, else in this repository's `target`, where `tools/library` puts those for
+//! Linux and `meter/build` those for microcontrollers. A target that has none is refused.
 
 use std::env;
 use std::path::PathBuf;
 use std::process::exit;
 
-/// The targets that `tools/library` makes the archive for, on a computer of theirs.
-const COMPUTERS: [&str; 3] = [
-    "x86_64-unknown-linux-gnu",
-    "x86_64-unknown-linux-musl",
-    "aarch64-unknown-linux-gnu",
+/// The targets that `tools/library` makes the archive for: its folder, and the command.
+const COMPUTERS: [(&str, &str, &str); 3] = [
+    ("x86_64-unknown-linux-gnu", "library", "tools/library"),
+    ("x86_64-unknown-linux-musl", "library", "tools/library"),
+    (
+        "aarch64-unknown-linux-gnu",
+        "library/aarch64",
+        "tools/library aarch64",
+    ),
 ];
 
 /// The microcontrollers' targets: the processor and the float ABI that `meter/build` is to be told, and
@@ -54,8 +58,8 @@ fn refuse(text: &str) -> ! {
 
 /// The folder of the repository's `target` that has a target's archive, and what makes it there.
 fn kept(target: &str) -> (String, String) {
-    if COMPUTERS.contains(&target) {
-        return ("library".into(), "tools/library".into());
+    if let Some((_, folder, command)) = COMPUTERS.iter().find(|computer| computer.0 == target) {
+        return (folder.to_string(), command.to_string());
     }
     match PARTS.iter().find(|part| part.0 == target) {
         Some((_, cpu, float, _)) => (
@@ -65,7 +69,7 @@ fn kept(target: &str) -> (String, String) {
         None => refuse(&format!(
             "there is no archive for {target}, only for {}, {}. For another target compile the proved \
              module as meter/build does, and name the folder of its libdoor.a in LISCHEMUR_LIB",
-            COMPUTERS.join(", "),
+            COMPUTERS.map(|computer| computer.0).join(", "),
             PARTS.map(|part| part.0).join(", ")
         )),
     }

@@ -1,8 +1,8 @@
 # For judges/compare, bench/run and bench/between, which run this in the repository's root: builds what they link.
 
-# the proved library of a folder for this computer, built if need be: its path there; a folder from before tools/library has one for x86-64 alone
+# the proved library of a folder for this computer, built if need be: its path there
 library_in() { # FOLDER
-    (cd "$1" && if [ -x tools/library ]; then tools/library; else rt staticlib door >&2 && echo target/staticlib/libdoor.a; fi)
+    (cd "$1" && tools/library)
 }
 
 # build the library and the oracle; then the program of a source file over both, target/judges/release/NAME

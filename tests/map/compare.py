@@ -36,7 +36,6 @@ def load(path):
 
 
 heapmap = load("tools/heapmap")
-HOW = subprocess.run([ROOT / "tools/proved", "--how"], check=True, capture_output=True, text=True).stdout.split("\n")[:-1]
 
 
 def fail(what, *shown):
@@ -46,7 +45,7 @@ def fail(what, *shown):
 
 def ask(program, data):
     """What a program writes for an input."""
-    run = subprocess.run([*HOW, ROOT / "target/bin" / program], input=data, capture_output=True, timeout=60)
+    run = subprocess.run([ROOT / "crates" / program / "out" / program], input=data, capture_output=True, timeout=60)
     if run.returncode != 0:
         fail("%s ended with status %d on" % (program, run.returncode), data)
     return run.stdout

@@ -59,7 +59,8 @@ use Rattle.rules.proofs.Demands.Bounds.{FoundFits, walked_fitᵇ, found_fitsᵇ,
 -- ---- MAKING
 
 pub one_chunk_by : (r q : Record) (ws ws1 ws2 ws3 : List ℕ) (n g b k : ℕ) → 1 ≤ n → n ≤ 65529 → g ≡ n - 1 → b ≡ 4 * g
-    → ws1 ≡ freed_in ws 0 b → ws2 ≡ set ws1 g 2 → k ≡ class_of b → seen q ws3 ≡ link base (seen r ws2) k 6 → seen q ws3 ≡ one_chunk base (seen r ws) (4 * (n - 1))
+    → ws1 ≡ freed_in ws 0 b → ws2 ≡ set ws1 g 2 → k ≡ class_of b → seen q ws3 ≡ link base (seen r ws2) k 6
+    → seen q ws3 ≡ one_chunk base (seen r ws) (4 * (n - 1))
 unfolding one_chunk mark_free freed
 one_chunk_by r q ws ws1 ws2 ws3 n g b k h most eg eb e1 e2 ek eq =
     let tags : ws1 ≡ freed ws 0 b = e1 ∙ freed_plain ws 0 b (omega arith) (omega arith) in

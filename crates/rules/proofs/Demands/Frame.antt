@@ -154,7 +154,8 @@ module _ {S : Type 0} {op : Ops S Figures} {most places : ℕ} (E : Edition op m
         let lt = left_there E (L E s m h) s pre n post k bk k6 w.legal w.tags in
         let fl = free_last-le 0 pre in
         let e0 : total pre - free_last 0 pre ≡ 0 + total pre - free_last 0 pre = ap (λ (t : ℕ). t - free_last 0 pre) (sym (zero-add (total pre))) in
-        let e1 : total pre + n + free_head post ≡ 0 + total pre - free_last 0 pre + (free_last 0 pre + (n + free_head post)) = sum (total pre) (free_last 0 pre) n
+        let e1 : total pre + n + free_head post
+        ≡ 0 + total pre - free_last 0 pre + (free_last 0 pre + (n + free_head post)) = sum (total pre) (free_last 0 pre) n
         (free_head post) (omega arith) in
         (L E s m h).word-set_rest (release_chunk op s (k - 6) (length_at op s k)) r i
         ∙ ap (λ (t : S). op.word t i) (release_words op s (k - 6) (length_at op s k) (omega arith) lt.1)
@@ -233,7 +234,8 @@ module _ {S : Type 0} {op : Ops S Figures} {most places : ℕ} (E : Edition op m
         n = without_cache_m m
 
         -- the value names the chunk
-        named : (x : ℕ) → 6 ≤ x → Outside ((byte_of x + 4 - 4) / 4) ((byte_of x + 4 - 4 + size_m m (name_of (byte_of x + 4 - 4))) / 4) i → Outside (byte_of x / 4)
+        named : (x : ℕ) → 6 ≤ x → Outside ((byte_of x + 4 - 4) / 4) ((byte_of x + 4 - 4 + size_m m (name_of (byte_of x + 4 - 4))) / 4) i
+            → Outside (byte_of x / 4)
             ((byte_of x + size_m m x) / 4) i
         named x x6 o =
             let b : byte_of x + 4 - 4 ≡ byte_of x = omega arith in
@@ -316,7 +318,8 @@ module _ {S : Type 0} {op : Ops S Figures} {most places : ℕ} (E : Edition op m
 
 module _ {S : Type 0} {op : Ops S Figures} {most places : ℕ} (E : Edition op most places) where
   -- a word that a live payload holds is live
-  pub live_holds : (s : S) (p i : ℕ) → Sound op most places s → 0 < live_at op most places s p → Holds p (live_at op most places s p) i → Live op most places s i
+  pub live_holds : (s : S) (p i : ℕ) → Sound op most places s → 0 < live_at op most places s p → Holds p (live_at op most places s p) i
+      → Live op most places s i
   live_holds s p i k a w =
       let m = k.0 in
       let h = k.1 in

@@ -54,7 +54,8 @@ use Rattle.rules.proofs.Demands.Proved.{narrow_edition, wide_edition}
 -- TAKING the free chunk at total pre leaves every other place as it was
 taken_away : (pre : List Chunk) (n : ℕ) (post : List Chunk) (z b : ℕ) → Legal (pre ++ free n ∷ post) → 16 ≤ z → b ≢ total pre
     → used_at (taken (pre ++ free n ∷ post) (length pre) z) b ≡ used_at (pre ++ free n ∷ post) b
-taken_away pre n post z b l z16 d = go (ℕ_discrete (used_at (pre ++ free n ∷ post) b) 0) (ℕ_discrete (used_at (taken (pre ++ free n ∷ post) (length pre) z) b) 0)
+taken_away pre n post z b l z16 d =
+    go (ℕ_discrete (used_at (pre ++ free n ∷ post) b) 0) (ℕ_discrete (used_at (taken (pre ++ free n ∷ post) (length pre) z) b) 0)
   where
     clash : used_at (pre ++ free n ∷ post) b ≡ 0 → (b ≡ total pre) ⊎ (used_at (pre ++ free n ∷ post) b ≢ 0) → ⊥
     clash e (inl q) = d q

@@ -113,7 +113,8 @@ module _ (W : Width) where
           (length o.after.words ≡ length ws)
           × ((i : ℕ) → i ≢ 0 → i ≢ W.place prev → i ≢ W.place next → i ≢ length ws - 2 → i ≢ length ws - 1 → get_or o.after.words i 0 ≡ get_or ws i 0)
 
-      go : (t : Bool) → acceptedᵇ most (length ws) ≡ t → Wrote (pick t (says 0 0 0 (one_chunk (ops W) (fresh ws) (4 * (length ws - 1)))) (says 6 0 0 (empty ws)))
+      go : (t : Bool) → acceptedᵇ most (length ws) ≡ t
+          → Wrote (pick t (says 0 0 0 (one_chunk (ops W) (fresh ws) (4 * (length ws - 1)))) (says 6 0 0 (empty ws)))
       go true e =
           let k = class_of (4 * (length ws - 1)) in
           let a = (accepted_true most (length ws) e).0 in

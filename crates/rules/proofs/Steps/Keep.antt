@@ -197,7 +197,8 @@ module _ {S R : Type 0} {op : Ops S R} (L : LinkStore op) (cls : ℕ → ℕ) (c
         (λ q g g16 w h o. rw (lt-ltb 0 f (omega arith), lt-ltb 0 g (omega arith)) (keep_both p q u s O n i f g w h o))
         post l
 
-    kept : (pre post : List Chunk) → Calm (pre ++ busy n ∷ post) → Kept (pre ++ busy n ∷ post) (0 + total pre - free_last 0 pre) (free_last 0 pre) (free_head post)
+    kept : (pre post : List Chunk) → Calm (pre ++ busy n ∷ post)
+        → Kept (pre ++ busy n ∷ post) (0 + total pre - free_last 0 pre) (free_last 0 pre) (free_head post)
     unfolding Kept
     kept pre post k w h o = go (ends pre)
       where

@@ -101,7 +101,7 @@ bursts =
 
 -- THE ONE CLAIM: document 01's entries with one place and with four, and where the two differ
 pub claim : (all one table ≡ true) × (all four table ≡ true) × (all one newest ≡ true) × (all four bursts ≡ true)
-unfolding call hand_out take_back live choose listed make serve from_cache from_list from_merged empty_cache first_fit settled link unlink set_left clear_left mark_free
-    mark_used one_chunk return_excess take_chunk cleared emptied left_free right_free merge merged release_chunk set_link_at class_of find in_turn used_at soundᵇ showsᵇ
-    candidate legalᵇ calmᵇ tagsᵇ segᵇ belowᵇ everyᵇ slotᵇ exactᵇ distinctᵇ underᵇ cacheᵇ figuresᵇ tile walk frees
+unfolding call hand_out take_back live choose listed make serve from_cache from_list from_merged empty_cache first_fit settled link unlink set_left clear_left
+    mark_free mark_used one_chunk return_excess take_chunk cleared emptied left_free right_free merge merged release_chunk set_link_at class_of find in_turn
+    used_at soundᵇ showsᵇ candidate legalᵇ calmᵇ tagsᵇ segᵇ belowᵇ everyᵇ slotᵇ exactᵇ distinctᵇ underᵇ cacheᵇ figuresᵇ tile walk frees
 claim = (refl, refl, refl, refl)

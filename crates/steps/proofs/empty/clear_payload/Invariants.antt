@@ -6,7 +6,8 @@ use Rattle.steps.proofs.empty.clear_payload.Given as goal
 
 abbrev pub invariant-loop-i : goal.invariant-loop-i
 invariant-loop-i l =
-    (emptied_in l.initial.heap l.w l.len ≡ cleared_in l.heap l.i (l.w + l.len / 4 - l.i)) × (length l.heap ≡ length l.initial.heap) × (l.w < length l.initial.heap)
+    (emptied_in l.initial.heap l.w l.len ≡ cleared_in l.heap l.i (l.w + l.len / 4 - l.i))
+    × (length l.heap ≡ length l.initial.heap) × (l.w < length l.initial.heap)
     × (l.end ≡ l.w + min (l.len / 4) (length l.initial.heap - l.w))
 
 abbrev pub decreases-loop-i : goal.decreases-loop-i

@@ -5,7 +5,8 @@ use Rattle.steps.specs.Undone.{undone}
 use Rattle.steps.proofs.undo.put_back.Given as goal
 
 abbrev pub invariant-loop-i : goal.invariant-loop-i
-invariant-loop-i l = (l.i ≤ l.n) × (2 * l.n ≤ length l.log) × (length l.heap ≡ length l.initial.heap) × (undone l.log l.n l.initial.heap ≡ undone l.log (l.n - l.i) l.heap)
+invariant-loop-i l = (l.i ≤ l.n) × (2 * l.n ≤ length l.log) × (length l.heap ≡ length l.initial.heap)
+    × (undone l.log l.n l.initial.heap ≡ undone l.log (l.n - l.i) l.heap)
 
 abbrev pub decreases-loop-i : goal.decreases-loop-i
 decreases-loop-i l = l.n - l.i
