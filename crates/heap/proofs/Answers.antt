@@ -154,9 +154,9 @@ module _ (r : Record) (ws : List ℕ) (z k : ℕ) (h : Served (seen r ws) z) (fo
   unfolding serve from_cache
   served_cached q ws1 c i n u p hk ei en ec eu ep eo eq =
       let w : i ≡ found - 6 = word_of i ei in
-      let in_heap_lem = (cached_fitsᵇ (ours 4) (seen r ws) h.sound found (is_cached hk)).inside in
+      let in_heap = (cached_fitsᵇ (ours 4) (seen r ws) h.sound found (is_cached hk)).inside in
       let words = (figures_fitᵇ (ours 4) (seen r ws) h.sound).accepted in
-      let hi : i < 65536 = omega (arith, w, in_heap_lem, words) in
+      let hi : i < 65536 = omega (arith, w, in_heap, words) in
       let v : p.0 ≡ byte_of found + 4 = payload_place found i p.0 w hi ep in
       let m : n ≡ size found = en ∙ ap (λ (j : ℕ). length_of (at ws j)) w in
       let least : min k 3 ≡ k = omega (arith, hk) in
