@@ -13,6 +13,7 @@ pub enum Field {
 }
 
 // The value of a digit; 16 for any other byte.
+#[tactic(auto, using(crate::proofs::Laws::Hex::digit_low, crate::proofs::Laws::Hex::digit_high, crate::proofs::Laws::Hex::digit_none))]
 fn digit_of(byte: u8) -> u32
     ensures { result ≡ digit_of byte }
 {

@@ -1,13 +1,13 @@
 -- How the public calls join: of each way out of a call, that its callees' promises give the rules' outcome. Assumes nothing.
 --     ours            narrow links, up to 65,529 words, any number of cache places: the editions that this heap is
 --     sound_four      what is sound for a kind is sound with four places
---     make-..         making;  one_chunk_by: its one free chunk
+--     make_..         making;  one_chunk_by: its one free chunk
 --     cache_packed    in a sound pair no unused place stands before a used one
 --     served_..       a handout from the cache;  listed_..: from the lists;  found_taken: what a search found
 --     oldest_..       the oldest cached chunk, let go
 --     live_..         which offsets are live
 --     settled_..      a chunk taken back
---     hand-.., back_..    the tests in their order
+--     hand_.., back_..    the tests in their order
 use mathlib.Core.Path.{◌≡◌, refl, sym, ap, ◌∙◌, subst}
 use mathlib.Core.Bool.{Bool, true, false}
 use mathlib.Core.List.Memᴰ

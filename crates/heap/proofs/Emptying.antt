@@ -1,6 +1,6 @@
 -- EMPTYING THE CACHE, as the code goes about it: the oldest chunk let go, turn by turn, noted, so that all of it can be undone. Assumes nothing.
 --     let_go_by           one chunk let go, by what its callees promise
---     Emptying            what holds after each turn of the loop;  emptying_none, -room, -used, -turn, -done: at its start, in it, at its end
+--     Emptying            what holds after each turn of the loop;  emptying_none, _room, _used, _turn, _done: at its start, in it, at its end
 use mathlib.Core.Path.{◌≡◌, refl, sym, ap, ◌∙◌, subst}
 use mathlib.Core.Bool.{true}
 use mathlib.Core.List.{List, [], ◌∷◌}

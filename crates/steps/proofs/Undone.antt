@@ -1,8 +1,8 @@
 -- LAWS OF NOTES (specs/Undone.antt): what is noted before it is overwritten can be put back, on any words. Assumes nothing.
---     undone_none, undone_turn            putting notes back: none left, and one more;  put_back_by, -all: as many as there are
---     note_past, -full, -one, -named      taking notes: past the end, in a full log, one
+--     undone_none, undone_turn            putting notes back: none left, and one more;  put_back_by, _all: as many as there are
+--     note_past, _full, _one, _named      taking notes: past the end, in a full log, one
 --     notes_more, notes_tags              more after those
---     Changed, changes_none, ..-set       words that differ at some places at most, and the stores that keep to them
+--     Changed, changes_none, .._set       words that differ at some places at most, and the stores that keep to them
 --     undo_by                             THE LAW: a step that stores at the noted places alone is undone by the notes
 --     undo_none, undo_on, undo_whole      no step; a step after a step; all notes of a log put back
 --     undo_within, room_within, room_on   looser bounds; the room that a step leaves

@@ -40,7 +40,7 @@ pub returns-then-t-n : goal.returns-then-t-n
 returns-then-t-n c =
     let whole = c.if-not-whole.false in
     let found = found_of _ _ _ _ c.cached_words-ws.ensures (c.count_chunks-t.ensures.1 whole) in
-    told _ _ c.args.figures _ (omega (arith, c.well_formed)) (omega (arith, c.well_formed)) (refused (λ s. c.if-t-n.true (found.end (cache_of _ _ _ _ _ s))))
+    told _ _ c.args.figures _ (omega (arith, c.well_formed)) (omega (arith, c.well_formed)) (refused (λ s. omega (arith, c.if-t-n.true, found.end (cache_of _ _ _ _ _ s))))
 
 pub returns-then-not-right : goal.returns-then-not-right
 returns-then-not-right c =
@@ -48,7 +48,7 @@ returns-then-not-right c =
     let whole = c.if-not-whole.false in
     let words = c.cached_words-ws.ensures in
     let found = found_of _ _ _ _ words (walk.1 whole) in
-    let held = held_of_lem _ _ _ words c.lengths_at-held.ensures (found.all c.if-t-n.false) in
+    let held = held_of_lem _ _ _ words c.lengths_at-held.ensures (found.all (omega (arith, c.if-t-n.false))) in
     told _ _ c.args.figures _ (omega (arith, c.well_formed)) (omega (arith, c.well_formed))
     (refused (λ s.
     let fit = held_fit _ _ _ _ _ _ (sym held) (figures_of_lem _ _ _ _ _ _ walk.0 whole found.first s) in
@@ -79,7 +79,7 @@ returns c =
     let words = c.cached_words-ws.ensures in
     let found = found_of _ _ _ _ words (walk.1 whole) in
     let links = sym c.links_right-links.ensures ∙ c.if-not-links.false in
-    let cache = found.all c.if-t-n.false in
+    let cache = found.all (omega (arith, c.if-t-n.false)) in
     let held = held_of_lem _ _ _ words c.lengths_at-held.ensures cache in
     let right = c.figures_right-right.ensures.0 c.if-not-right.false in
     let figures = held_fit _ _ _ _ _ _ held right in

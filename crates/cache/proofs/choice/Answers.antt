@@ -1,5 +1,4 @@
--- `cache::choice` meets its contract. Invariant: what is left to search from place k on, counted from there, is the whole search. Measure: the places
--- left.
+-- `cache::choice` meets its contract; Invariants.antt says what its loop keeps.
 use native.Mathlib.Omega.{arith}
 use Rattle.cache.proofs.Four.{size_is, four_none, four_unused, four_here, four_on}
 use Rattle.cache.proofs.choice.Goals as goal

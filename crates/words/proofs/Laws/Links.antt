@@ -3,7 +3,7 @@
 --     link-set_link-same, -other, -side, -even, -apart     links in the words after one is stored
 --     length-set_link, at-set_link, link_set                what else a store keeps
 --     set_link-by                                          reading a link word and storing what is put together sets the link
---     node_store_same, -other, -side, node-set            the same of nodes, in the sentinels and the words
+--     node_store_same, _other, _side, node-set            the same of nodes, in the sentinels and the words
 --     length-set_sentinel, length-set_chunk, at-set_chunk
 use Rattle.std.proofs.Common.{◌≡◌, ℕ, ◌+◌, ◌-◌, ◌%◌, ◌<◌, ◌≤◌, ◌≢◌, List, length, set, refl, ap, ◌∙◌, arith, length-set, get_or-set_other, get_or-set_same, le-ltb, lt-ltb}
 use Rattle.words.specs.Tags.{at}

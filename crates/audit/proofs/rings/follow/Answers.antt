@@ -1,5 +1,4 @@
--- `audit::rings::follow` meets its contract. Invariant: what is left to follow, with n passed, is the whole list, and k is its next link. It is said
--- of all sentinels whose first link is the one that was read. Measure: the turns left.
+-- `audit::rings::follow` meets its contract; Invariants.antt says what its loop keeps.
 use Rattle.std.proofs.Common.{◌+◌, length, sym, refl, ◌∙◌, arith}
 use Rattle.audit.specs.Rings.{chained}
 use Rattle.audit.proofs.rings.Chases.{not_back, at_end, not_inside, goes_on_lem, ran_out}

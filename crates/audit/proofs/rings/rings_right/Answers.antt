@@ -1,4 +1,4 @@
--- `audit::rings::rings_right` meets its contract. Invariant: the lists passed are rings of the right length. Measure: the classes left.
+-- `audit::rings::rings_right` meets its contract; Invariants.antt says what its loop keeps.
 use Rattle.std.proofs.Common.{sym, ap, ◌∙◌, arith, below_none, below_more}
 use Rattle.audit.specs.declared.rings.Followed.TheVariants.{Long}
 use Rattle.audit.proofs.rings.Chases.{cut_not_long, long_is}

@@ -1,5 +1,4 @@
--- `audit::tiling::count_chunks` meets its contract. Invariant: for each class, what is left to walk with the sums so far is the whole walk; the
--- words waited for are chased; the first free chunk is met, or the search for it is on. Measure: the words ahead.
+-- `audit::tiling::count_chunks` meets its contract; Invariants.antt says what its loop keeps.
 use Rattle.std.proofs.Common.{sym, arith}
 use Rattle.audit.specs.Walk.{tallied}
 use Rattle.audit.proofs.tiling.Walks.{tiled_empty}

@@ -1,5 +1,5 @@
 -- `audit::tiling::seen_at` meets its contract: the code makes the tests of `seen_at`, in its order.
-use Rattle.std.proofs.Common.{arith, le-ltb, lt-ltb, eq-eqb, ne_eqb, le-leb}
+use Rattle.std.proofs.Common.{◌+◌, ◌%◌, get_or, arith, le-ltb, lt-ltb, eq-eqb, ne_eqb, le-leb}
 use borrow.Author.Tests.{lt-leb}
 use Rattle.audit.specs.Layout.{pick}
 use Rattle.audit.specs.Walk.{seen_at}
@@ -36,7 +36,7 @@ returns-then-h-left c =
       lt-ltb _ _ c.if-n-at.false,
       le-leb _ _ c.if-h-lt16.false,
       lt-ltb _ _ c.if-n-at-2.false,
-      eq-eqb _ _ c.if-h-left.true,
+      eq-eqb (get_or c.args.heap.now c.args.at 0 % 8) (2 + c.args.left) (omega (arith, c.if-h-left.true)),
     )
 
 pub returns-then-left-eq0 : goal.returns-then-left-eq0
@@ -46,8 +46,8 @@ returns-then-left-eq0 c =
       lt-ltb _ _ c.if-n-at.false,
       le-leb _ _ c.if-h-lt16.false,
       lt-ltb _ _ c.if-n-at-2.false,
-      ne_eqb _ _ c.if-h-left.false,
-      eq-eqb _ _ c.if-left-eq0.true,
+      ne_eqb (get_or c.args.heap.now c.args.at 0 % 8) (2 + c.args.left) (λ e. omega (arith, e, c.if-h-left.false)),
+      eq-eqb c.args.left 0 (omega (arith, c.if-left-eq0.true)),
     )
 
 pub returns-then-h-ne1 : goal.returns-then-h-ne1
@@ -57,8 +57,8 @@ returns-then-h-ne1 c =
       lt-ltb _ _ c.if-n-at.false,
       le-leb _ _ c.if-h-lt16.false,
       lt-ltb _ _ c.if-n-at-2.false,
-      ne_eqb _ _ c.if-h-left.false,
-      ne_eqb _ _ c.if-left-eq0.false,
+      ne_eqb (get_or c.args.heap.now c.args.at 0 % 8) (2 + c.args.left) (λ e. omega (arith, e, c.if-h-left.false)),
+      ne_eqb c.args.left 0 (λ e. omega (arith, e, c.if-left-eq0.false)),
       ne_eqb _ _ c.if-h-ne1.true,
     )
 
@@ -69,8 +69,8 @@ returns-then-heap-at c =
       lt-ltb _ _ c.if-n-at.false,
       le-leb _ _ c.if-h-lt16.false,
       lt-ltb _ _ c.if-n-at-2.false,
-      ne_eqb _ _ c.if-h-left.false,
-      ne_eqb _ _ c.if-left-eq0.false,
+      ne_eqb (get_or c.args.heap.now c.args.at 0 % 8) (2 + c.args.left) (λ e. omega (arith, e, c.if-h-left.false)),
+      ne_eqb c.args.left 0 (λ e. omega (arith, e, c.if-left-eq0.false)),
       eq-eqb _ _ c.if-h-ne1.false,
       ne_eqb _ _ c.if-heap-at.true,
     )
@@ -82,8 +82,8 @@ returns c =
       lt-ltb _ _ c.if-n-at.false,
       le-leb _ _ c.if-h-lt16.false,
       lt-ltb _ _ c.if-n-at-2.false,
-      ne_eqb _ _ c.if-h-left.false,
-      ne_eqb _ _ c.if-left-eq0.false,
+      ne_eqb (get_or c.args.heap.now c.args.at 0 % 8) (2 + c.args.left) (λ e. omega (arith, e, c.if-h-left.false)),
+      ne_eqb c.args.left 0 (λ e. omega (arith, e, c.if-left-eq0.false)),
       eq-eqb _ _ c.if-h-ne1.false,
       eq-eqb _ _ c.if-heap-at.false,
     )

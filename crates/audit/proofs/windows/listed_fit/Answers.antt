@@ -1,5 +1,4 @@
--- `audit::windows::listed_fit` meets its contract. Invariant: the test of the links left, of which k is the first, is that of all, and they lie
--- before the guard. Measure: how many are left.
+-- `audit::windows::listed_fit` meets its contract; Invariants.antt says what its loop keeps.
 use Rattle.std.proofs.Common.{sym, refl, ◌∙◌, arith}
 use Rattle.audit.proofs.rings.Nodes.{inside_is}
 use Rattle.audit.proofs.windows.Lists.{all_end, all_stop, all_on, all_parts}

@@ -1,4 +1,4 @@
--- `audit::windows::lists_right` meets its contract. Invariant: every listed link below here names a free chunk of its class. Measure: the words ahead.
+-- `audit::windows::lists_right` meets its contract; Invariants.antt says what its loop keeps.
 use Rattle.std.proofs.Common.{sym, ◌∙◌, arith}
 use mathlib.Core.Bool.{false≢true}
 use Rattle.audit.proofs.windows.Lists.{showing_starts, showing_on, listed_fit, all_shown}

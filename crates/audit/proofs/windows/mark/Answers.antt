@@ -1,4 +1,4 @@
--- `audit::windows::mark` meets its contract. Invariant: from where the window starts up to here, the marks are the free chunks. Measure: the words ahead.
+-- `audit::windows::mark` meets its contract; Invariants.antt says what its loop keeps.
 use Rattle.std.proofs.Common.{◌≡◌, ℕ, ◌+◌, ◌/◌, ◌<◌, List, length, sym, refl, ◌∙◌, arith}
 use Rattle.audit.specs.declared.tiling.Seen.TheVariants.{Free, Used}
 use Rattle.audit.specs.Walk.{seen_at}

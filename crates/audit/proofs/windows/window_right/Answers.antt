@@ -1,4 +1,4 @@
--- `audit::windows::window_right` meets its contract. Invariant: the lists passed fit the window. Measure: the classes left.
+-- `audit::windows::window_right` meets its contract; Invariants.antt says what its loop keeps.
 use Rattle.std.proofs.Common.{sym, ◌∙◌, arith, below_none, below_more}
 use mathlib.Core.Bool.{false≢true}
 use Rattle.audit.proofs.Counting.{refused, granted}

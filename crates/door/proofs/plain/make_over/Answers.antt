@@ -3,6 +3,7 @@ use mathlib.Core.Path.{◌≡◌, sym, ◌∙◌}
 use mathlib.Core.Bool.{true, false}
 use Prim.Native.Nat.{ℕ}
 use lib.ListN.{length}
+use native.Mathlib.Omega.{arith}
 use borrow.Author.Tests.{eq-eqb, ne_eqb}
 use Rattle.words.specs.Links.{narrow}
 use Rattle.rules.specs.Rules.Calls.{says}
@@ -28,15 +29,15 @@ unfolding make_over
 over-made s n e f = rw (eq-eqb _ _ e, f)
 
 pub returns-then-words-heap : goal.returns-then-words-heap
-returns-then-words-heap c = same_outcome _ _ _ c.in_numbers.ensures ∙ over-other _ _ c.if-words-heap.true
+returns-then-words-heap c = same_outcome _ _ _ c.in_numbers.ensures ∙ over-other _ _ (λ e. omega (arith, e, c.if-words-heap.true))
 
 pub returns-then-not-accepted : goal.returns-then-not-accepted
 returns-then-not-accepted c =
     same_outcome _ _ _ c.in_numbers-then-not-accepted.ensures
-    ∙ over-bad _ _ c.if-words-heap.false (sym c.accepted.ensures ∙ c.if-not-accepted.true)
+    ∙ over-bad _ _ (omega (arith, c.if-words-heap.false)) (sym c.accepted.ensures ∙ c.if-not-accepted.true)
 
 pub returns : goal.returns
 returns c =
     same_outcome _ _ _ c.in_numbers-2.ensures ∙ c.make-out.ensures
-    ∙ over-made (seen c.args.rec _) _ c.if-words-heap.false
+    ∙ over-made (seen c.args.rec _) _ (omega (arith, c.if-words-heap.false))
     (sym c.accepted.ensures ∙ c.if-not-accepted.false)

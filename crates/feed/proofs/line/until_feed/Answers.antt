@@ -1,4 +1,4 @@
--- `feed::line::until_feed` meets its contract. Invariant: the bytes before k are no line feeds. Measure: the bytes left.
+-- `feed::line::until_feed` meets its contract; Invariants.antt says what its loop keeps.
 use mathlib.Core.Path.{sym, ap, ◌∙◌}
 use Prim.Native.Nat.{ℕ, ◌+◌}
 use native.Mathlib.Omega.{arith}
@@ -10,11 +10,11 @@ pub loop-k-init : goal.loop-k-init
 loop-k-init c = (omega arith, omega arith)
 
 pub returns-then-input-k-eq10 : goal.returns-then-input-k-eq10
-returns-then-input-k-eq10 c = sym (c.loop-k.invariant.0 ∙ ap (λ (n : ℕ). c.loop-k.k + n) (until_fed _ _ c.loop-k-test.true c.if-input-k-eq10.true) ∙ add-zero _)
+returns-then-input-k-eq10 c = sym (c.loop-k.invariant.0 ∙ ap (λ (n : ℕ). c.loop-k.k + n) (until_fed _ _ c.loop-k-test.true (omega (arith, c.type_inv.input c.loop-k.k, c.if-input-k-eq10.true))) ∙ add-zero _)
 
 pub loop-k-preserved : goal.loop-k-preserved
 loop-k-preserved c = (
-  c.loop-k.invariant.0 ∙ omega (arith, until_more c.args.input.now c.loop-k.k c.loop-k-test.true c.if-input-k-eq10.false),
+  c.loop-k.invariant.0 ∙ omega (arith, until_more c.args.input.now c.loop-k.k c.loop-k-test.true (λ e. omega (arith, e, c.if-input-k-eq10.false))),
   omega arith,
 )
 

@@ -1,4 +1,4 @@
--- `feed::pieces::feed` meets its contract. Invariant: the trace stands where the bytes taken so far lead. Measure: the bytes left.
+-- `feed::pieces::feed` meets its contract; Invariants.antt says what its loop keeps.
 use mathlib.Core.Path.{refl, ◌∙◌}
 use native.Mathlib.Omega.{arith}
 use Rattle.feed.proofs.Laws.{steps_none, steps_on}

@@ -1,5 +1,4 @@
--- `frame::hex::read_field` meets its contract. Invariant: the field is what its bytes from k on say after the number read so far, which fits 32 bits.
--- A digit keeps it; a byte that is none, and a number with no room for the digit, refuse the field. Measure: the bytes that are left.
+-- `frame::hex::read_field` meets its contract; Invariants.antt says what its loop keeps.
 use mathlib.Core.Path.{sym, ◌∙◌}
 use native.Mathlib.Omega.{arith}
 use lib.Dec.{lit<}

@@ -1,5 +1,4 @@
--- `frame::hex::write_field` meets its contract. Invariant: the digits of what is left of the number, before the bytes written from k on, are the digits
--- of the number. Measure: the bytes that are left.
+-- `frame::hex::write_field` meets its contract; Invariants.antt says what its loop keeps.
 use mathlib.Core.Path.{refl, sym, ◌∙◌}
 use native.Mathlib.Omega.{arith}
 use lib.ListN.{length-set}

@@ -1,5 +1,4 @@
--- `map::read::check_lines` meets its contract. Invariant: all lines count to what those from byte i on count to, after n rows. Measure: the bytes that are
--- left.
+-- `map::read::check_lines` meets its contract; Invariants.antt says what its loop keeps.
 use mathlib.Core.Path.{◌≡◌, sym, ◌∙◌}
 use mathlib.Core.List.{List}
 use Prim.Native.Nat.{ℕ, ◌+◌, ◌≤◌}

@@ -1,5 +1,4 @@
--- `map::read::lay_rows` meets its contract. Invariant: once the lines from byte i on are laid behind the first k rows, the room is what the contract says.
--- Measure: the rows that are left.
+-- `map::read::lay_rows` meets its contract; Invariants.antt says what its loop keeps.
 use mathlib.Core.Path.{◌≡◌, refl, sym, ◌∙◌}
 use mathlib.Core.List.{List}
 use Prim.Native.Nat.{ℕ, ◌+◌, ◌≤◌}

@@ -1,5 +1,4 @@
--- `map::write::count_chunks` meets its contract. Invariant: those counted and those from here on are all, the bytes from here on end in time, and
--- no more are counted than there are words. Measure: the fuel.
+-- `map::write::count_chunks` meets its contract; Invariants.antt says what its loop keeps.
 use mathlib.Core.Path.{◌≡◌, ap}
 use mathlib.Core.List.{List}
 use Prim.Native.Nat.{ℕ, ◌/◌, ◌<◌}

@@ -1,5 +1,4 @@
--- `map::write::write_lines` meets its contract. Invariant: the lines from here on, laid over the room as it is, give what all lines over the first room
--- give; the bytes from here on end in time; and the room has a line's bytes for each chunk that is left. Measure: the fuel.
+-- `map::write::write_lines` meets its contract; Invariants.antt says what its loop keeps.
 use mathlib.Core.Path.{◌≡◌, refl, sym, ◌∙◌}
 use mathlib.Core.List.{List}
 use Prim.Native.Nat.{ℕ, ◌+◌, ◌-◌, ◌/◌, ◌<◌}

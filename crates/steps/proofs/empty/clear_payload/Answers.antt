@@ -1,5 +1,4 @@
--- `steps::empty::clear_payload` meets its contract. Invariant: the payload emptied is these words with the rest of it cleared from word i on. A turn keeps
--- it by `cleared_turn`; at the end what is left is nothing, or lies past the heap. Measure: the words before the end.
+-- `steps::empty::clear_payload` meets its contract; Invariants.antt says what its loop keeps.
 use Rattle.std.proofs.Common.{sym, refl, ◌∙◌, arith, length-set}
 use Rattle.steps.proofs.Clears.{cleared_turn, cleared_end, emptied_start, emptied_past}
 use Rattle.steps.proofs.empty.clear_payload.Goals as goal

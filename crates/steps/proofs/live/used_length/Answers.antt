@@ -1,5 +1,4 @@
--- `steps::live::used_length` meets its contract. Invariant: the whole walk is the walk from here, and `e` and what is left of b make b, so that `e` stays
--- in range. A turn keeps it by the law of what stands there. Measure: the fuel.
+-- `steps::live::used_length` meets its contract; Invariants.antt says what its loop keeps.
 use Rattle.std.proofs.Common.{true, false, sym, refl, ◌∙◌, arith}
 use Rattle.steps.proofs.Tiling.{used_out, used_guard, used_here, used_inside, used_on}
 use Rattle.steps.proofs.live.used_length.Goals as goal

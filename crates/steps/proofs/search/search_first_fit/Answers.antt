@@ -1,5 +1,4 @@
--- `steps::search::search_first_fit` meets its contract. Invariant: the whole search is the search of the lists from this class on, and no more than `limit`
--- were compared. A list without a fit keeps it, since its walk counts no further than the limit. Measure: the classes that are left.
+-- `steps::search::search_first_fit` meets its contract; Invariants.antt says what its loop keeps.
 use Rattle.std.proofs.Common.{sym, ◌∙◌, arith}
 use Rattle.steps.proofs.Walks.{walk_bound, fit_out, fit_hit, fit_miss, fit_lost}
 use Rattle.steps.proofs.search.search_first_fit.Goals as goal

@@ -1,5 +1,4 @@
--- `steps::search::walk_list` meets its contract. Invariant: the whole walk is the walk from here, and no more than `limit` were compared. A turn keeps it
--- by the law of where it stands. Measure: what is left of the limit.
+-- `steps::search::walk_list` meets its contract; Invariants.antt says what its loop keeps.
 use Rattle.std.proofs.Common.{sym, ◌∙◌, arith}
 use Rattle.steps.proofs.Walks.{walk_start, walk_end, walk_lost, walk_fits, walk_on}
 use Rattle.steps.proofs.search.walk_list.Goals as goal

@@ -1,5 +1,4 @@
--- `steps::undo::put_back` meets its contract. Invariant: undoing all n notes on the words at entry is undoing the first n - i on these. A turn keeps it
--- by `undone_turn`. Measure: the notes that are left.
+-- `steps::undo::put_back` meets its contract; Invariants.antt says what its loop keeps.
 use Rattle.std.proofs.Common.{◌≡◌, ℕ, ◌+◌, ◌-◌, ◌*◌, sym, refl, ap, ◌∙◌, arith}
 use Rattle.steps.proofs.Undone.{undone_none, undone_turn, put_back_by}
 use Rattle.steps.specs.Undone.{undone}

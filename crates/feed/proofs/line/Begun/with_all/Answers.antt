@@ -1,4 +1,4 @@
--- `feed::line::Begun::with_all` meets its contract. Invariant: the bytes from k on are still to be kept. Measure: how many they are.
+-- `feed::line::Begun::with_all` meets its contract; Invariants.antt says what its loop keeps.
 use mathlib.Core.Path.{refl, sym, ◌∙◌}
 use borrow.Author.Rules.{rules}
 use Rattle.feed.proofs.Laws.{keeps_end, keeps_on, keeps_full}

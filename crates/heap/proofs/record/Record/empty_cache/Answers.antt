@@ -1,5 +1,4 @@
--- `heap::record::Record::empty_cache` meets its contract. Invariant: `Emptying`, that what is left to do comes to the same. A turn keeps
--- it (`emptying_turn`). Measure: the turns left.
+-- `heap::record::Record::empty_cache` meets its contract; Invariants.antt says what its loop keeps.
 use native.Mathlib.Omega.{arith}
 use Rattle.heap.specs.Seen.{FourPlaces}
 use Rattle.heap.proofs.Emptying.{emptying_none, emptying_used, emptying_room, emptying_turn, emptying_done}
