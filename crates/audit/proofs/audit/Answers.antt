@@ -40,7 +40,8 @@ pub returns-then-t-n : goal.returns-then-t-n
 returns-then-t-n c =
     let whole = c.if-not-whole.false in
     let found = found_of _ _ _ _ c.cached_words-ws.ensures (c.count_chunks-t.ensures.1 whole) in
-    told _ _ c.args.figures _ (omega (arith, c.well_formed)) (omega (arith, c.well_formed)) (refused (λ s. omega (arith, c.if-t-n.true, found.end (cache_of _ _ _ _ _ s))))
+    told _ _ c.args.figures _ (omega (arith, c.well_formed)) (omega (arith, c.well_formed))
+    (refused (λ s. omega (arith, c.if-t-n.true, found.end (cache_of _ _ _ _ _ s))))
 
 pub returns-then-not-right : goal.returns-then-not-right
 returns-then-not-right c =
