@@ -28,8 +28,8 @@
  *
  * What the library calls but does not contain, since every C program for the processor links it anyway (-lc -lgcc, say):
  *   64 bits    memset, on x86-64 and on 64-bit Arm
- *   Cortex-M   __aeabi_memcpy and __aeabi_memclr4; for the map __aeabi_uldivmod; on a Cortex-M0+ also __aeabi_lmul and
- *              __clzsi2
+ *   Cortex-M   __aeabi_memcpy, __aeabi_memclr and __aeabi_memclr4; for the map __aeabi_uldivmod; on a Cortex-M0+ also
+ *              __aeabi_lmul and __clzsi2
  *   RISC-V     memcpy and memset; for the map __udivdi3
  *
  * Header and library belong together. What crosses the door has a layout with a number, LISCHEMUR_LAYOUT, and the library's

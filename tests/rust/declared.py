@@ -24,7 +24,6 @@ FIELDS = {"rec": "record"}  # antt reserves the word record
 # The sources, and how many structs and functions each is to declare.
 SOURCES = {
     "bindings/rust": (["bindings/rust/src/record.rs", "bindings/rust/src/door.rs"], 3, 14),
-    "crates/door": (["crates/heap/src/record.rt", "crates/door/src/reply.rt", "crates/door/src/lib.rt"], 3, 14),
     "crates/door_c": (["crates/heap/src/record.rt", "crates/door/src/reply.rt", "crates/door_c/src/lib.rt"], 3, 14),
 }
 

@@ -1,10 +1,10 @@
 -- WALKS OF THE TILING, as the code takes them: no part of what a sound heap is.
-use Rattle.std.specs.Prelude.{◌≡◌, ℕ, zero, suc, ◌+◌, ◌-◌, ◌*◌, ◌/◌, ◌%◌, ◌≤◌, not, List, [], ◌∷◌, length, ◌==◌, nat_le, nat_lt, slice_index}
+use Rattle.std.specs.Prelude.{◌≡◌, ℕ, zero, suc, ◌+◌, ◌-◌, ◌*◌, ◌/◌, ◌%◌, ◌≤◌, not, List, [], ◌∷◌, length, ◌==◌, nat_le, nat_lt, slice_index, Option, None, Some}
 use Rattle.words.specs.Choice.{bit}
 use Rattle.words.specs.Sizes.{class_of}
 use Rattle.audit.specs.declared.Figures.{Figures}
 use Rattle.audit.specs.declared.tiling.Seen.{Seen}
-use Rattle.audit.specs.declared.tiling.Seen.TheVariants.{Bad, Free, Used}
+use Rattle.audit.specs.declared.tiling.Seen.TheVariants.{Free, Used}
 use Rattle.audit.specs.declared.tiling.Tally.{Tally}
 use Rattle.audit.specs.Layout.{pick, Chunk, free, used}
 
@@ -13,17 +13,17 @@ abbrev pub bytes : ℕ → ℕ
 bytes h = h / 8 * 8
 
 -- what stands at word `at`, where `left` is 1 if what is left of it is used
-unfoldable pub seen_at : List ℕ → ℕ → ℕ → Seen
+unfoldable pub seen_at : List ℕ → ℕ → ℕ → Option Seen
 seen_at ws at left =
     pick (nat_lt at (length ws))
     (pick (nat_le 16 (slice_index ws at))
     (pick (nat_lt (bytes (slice_index ws at) / 4) (length ws - at))
     (pick (slice_index ws at % 8 == 2 + left)
-    (Used (bytes (slice_index ws at)))
+    (Some (Used (bytes (slice_index ws at))))
     (pick (not (left == 0))
     (pick (slice_index ws at % 8 == 1)
     (pick (slice_index ws (at + bytes (slice_index ws at) / 4 - 1) == bytes (slice_index ws at))
-    (Free (bytes (slice_index ws at))) Bad) Bad) Bad)) Bad) Bad) Bad
+    (Some (Free (bytes (slice_index ws at)))) None) None) None)) None) None) None
 
 -- THE WHOLE WALK: broken, or the sum of used lengths, the end of the last used chunk, and how many free chunks are of a class
 pub data Tiled : Type 0 where
@@ -31,10 +31,10 @@ pub data Tiled : Type 0 where
   Whole : ℕ → ℕ → ℕ → Tiled
 
 -- what a turn does with what it saw
-unfoldable pub turn : ℕ → (ℕ → ℕ → ℕ → ℕ → ℕ → Tiled) → ℕ → ℕ → ℕ → ℕ → Seen → Tiled
-turn c go at sum top fr Bad = Broken
-turn c go at sum top fr (Free n) = go (at + n / 4) 0 sum top (fr + bit (class_of n == c))
-turn c go at sum top fr (Used n) = go (at + n / 4) 1 (sum + n) ((at + n / 4) * 4) fr
+unfoldable pub turn : ℕ → (ℕ → ℕ → ℕ → ℕ → ℕ → Tiled) → ℕ → ℕ → ℕ → ℕ → Option Seen → Tiled
+turn c go at sum top fr None = Broken
+turn c go at sum top fr (Some (Free n)) = go (at + n / 4) 0 sum top (fr + bit (class_of n == c))
+turn c go at sum top fr (Some (Used n)) = go (at + n / 4) 1 (sum + n) ((at + n / 4) * 4) fr
 
 -- the walk from word `at` on, in at most this many turns, with the sums so far
 unfoldable pub walk : ℕ → List ℕ → ℕ → ℕ → ℕ → ℕ → ℕ → ℕ → Tiled
@@ -49,48 +49,49 @@ unfoldable pub tiled_by : List ℕ → ℕ → Tiled
 tiled_by ws c = walk (length ws) ws c 0 1 0 0 0
 
 -- what a tally says of a class
-unfoldable pub tallied : Tally → ℕ → Tiled
-tallied t c = pick t.whole (Whole t.sum t.top (slice_index t.frees c)) Broken
+unfoldable pub tallied : Option Tally → ℕ → Tiled
+tallied None c = Broken
+tallied (Some t) c = Whole t.sum t.top (slice_index t.frees c)
 
 -- THE CHUNK AT A WORD of the tiling
-unfoldable pub onto : (ℕ → ℕ → Seen) → ℕ → Seen → Seen
-onto go at Bad = Bad
-onto go at (Free n) = go (at + n / 4) 0
-onto go at (Used n) = go (at + n / 4) 1
+unfoldable pub onto : (ℕ → ℕ → Option Seen) → ℕ → Option Seen → Option Seen
+onto go at None = None
+onto go at (Some (Free n)) = go (at + n / 4) 0
+onto go at (Some (Used n)) = go (at + n / 4) 1
 
 -- the search for word w from word `at` on, in at most this many turns
-unfoldable pub chunk_from : ℕ → List ℕ → ℕ → ℕ → ℕ → Seen
-chunk_from zero ws w at left = Bad
+unfoldable pub chunk_from : ℕ → List ℕ → ℕ → ℕ → ℕ → Option Seen
+chunk_from zero ws w at left = None
 chunk_from (suc f) ws w at left =
     pick (nat_lt at w)
     (onto (chunk_from f ws w) at (seen_at ws at left))
-    (pick (at == w) (seen_at ws at left) Bad)
+    (pick (at == w) (seen_at ws at left) None)
 
 -- the chunk whose header is word w
-unfoldable pub chunk_of : List ℕ → ℕ → Seen
+unfoldable pub chunk_of : List ℕ → ℕ → Option Seen
 chunk_of ws w = chunk_from (suc (length ws)) ws w 0 1
 
 -- the same search, on a layout
-unfoldable pub chunk_in : List Chunk → ℕ → ℕ → Seen
-chunk_in [] at w = Bad
-chunk_in (free n ∷ cs) at w = pick (nat_lt at w) (chunk_in cs (at + n / 4) w) (pick (at == w) (Free n) Bad)
-chunk_in (used n ∷ cs) at w = pick (nat_lt at w) (chunk_in cs (at + n / 4) w) (pick (at == w) (Used n) Bad)
+unfoldable pub chunk_in : List Chunk → ℕ → ℕ → Option Seen
+chunk_in [] at w = None
+chunk_in (free n ∷ cs) at w = pick (nat_lt at w) (chunk_in cs (at + n / 4) w) (pick (at == w) (Some (Free n)) None)
+chunk_in (used n ∷ cs) at w = pick (nat_lt at w) (chunk_in cs (at + n / 4) w) (pick (at == w) (Some (Used n)) None)
 
 -- WHAT IS HELD at a word: the length of the used chunk that was seen there, and 0 where none was
-unfoldable pub length_seen : Seen → ℕ
-length_seen Bad = 0
-length_seen (Free n) = 0
-length_seen (Used n) = n
+unfoldable pub length_seen : Option Seen → ℕ
+length_seen None = 0
+length_seen (Some (Free n)) = 0
+length_seen (Some (Used n)) = n
 
 -- of the chunk whose header is word w
 unfoldable pub held_at : List ℕ → ℕ → ℕ
 held_at ws w = length_seen (chunk_of ws w)
 
 -- THE FIRST FREE CHUNK: past a used chunk the search goes on; it ends at a free one, or at the guard
-unfoldable pub past_used : (ℕ → ℕ) → ℕ → Seen → ℕ
-past_used go at Bad = at
-past_used go at (Free n) = at
-past_used go at (Used n) = go (at + n / 4)
+unfoldable pub past_used : (ℕ → ℕ) → ℕ → Option Seen → ℕ
+past_used go at None = at
+past_used go at (Some (Free n)) = at
+past_used go at (Some (Used n)) = go (at + n / 4)
 
 -- its word, from word `at` on, in at most this many turns
 unfoldable pub first_from : ℕ → List ℕ → ℕ → ℕ

@@ -3,14 +3,15 @@
 // What it costs: the tiling is walked once with all tests, and once more, from the first free chunk on, with a single one; each class list is followed
 // once in both directions, and once more for each window of 2,048 words. An empty list costs two reads. The first walk waits for the words of the
 // cached chunks one after the other, with one test for each used chunk; their lengths are read after it. Besides the locals, the stack holds 128 bytes
-// of marks, whatever the length.
+// of marks, whatever the length. Tiling, rings and windows are not inlined: each loop has the processor's registers to itself.
 //
+//     ground    the words
 //     tiling    chunks, from one header to the next
 //     rings     the class lists as mirrored rings
 //     windows   the free chunks of a stretch of words, marked, against the lists
 //
 // Words and bytes are counted in u32 once the length is tested: a usize has 64 bits, two registers on a meter's processor. So the functions below
-// require fewer than 2^30 words.
+// take the words as a `Ground`, of which there are fewer than 2^30.
 //
 // The contract is an equation with the rules' own test. In between stands `proofs/Sound.antt`: the same condition, in terms of words and counts.
 #![tactic(auto)]
@@ -24,10 +25,12 @@ ghost use Rattle.words.specs.Numbers.{numbers};
 ghost use Rattle.audit.specs.Walk.{FiguresFit};
 ghost use Rattle.audit.specs.Cached.{cached_word, words_of, front_right, links_right};
 
+mod ground;
 mod rings;
 mod tiling;
 mod windows;
 
+use ground::Ground;
 use rings::rings_right;
 use tiling::{count_chunks, lengths_at};
 use windows::lists_right;
@@ -51,63 +54,43 @@ pub struct Figures {
 
 // The word of a cached chunk's header: the heap's length if the link names no chunk, the guard if it names one past the words. Neither is a used
 // chunk's header.
+#[tactic(auto, unfolding(crate::specs::Cached::cached_word, words::specs::Choice::pick))]
 fn cached_word(n: u32, cached: Link) -> u32
     ensures { result ≡ cached_word n cached.0 }
 {
-    if cached.0 < 6 {
-        return n;
-    }
-    let w = cached.0 as u32 - 6;
-    if w < n {
-        return w;
-    }
-    words::monus(n as usize, 1) as u32
+    let guard = n.saturating_sub(1);
+    cached
+        .0
+        .checked_sub(6)
+        .map_or(n, |w| u32::from(w).min(guard))
 }
 
 // The words of the cached chunks' headers.
 fn cached_words(n: u32, c: [Link; 4]) -> [u32; 4]
     ensures { result ≡ words_of n (numbers c) }
 {
-    [
-        cached_word(n, c[0]),
-        cached_word(n, c[1]),
-        cached_word(n, c[2]),
-        cached_word(n, c[3]),
-    ]
+    c.map(|l| cached_word(n, l))
 }
 
 // Whether a link can stand before these: link 0 before another link 0, or a chunk's link that does not come again.
-fn front_right(l: Link, others: [Link; 4]) -> bool
-    ensures { result ≡ front_right l.0 (numbers others) }
+#[tactic(auto, unfolding(crate::specs::Cached::front_right, words::specs::Choice::pick))]
+fn front_right(l: Link, rest: &[Link]) -> bool
+    ensures { result ≡ front_right l.0 (numbers rest.now) }
 {
-    if l.0 == 0 {
-        return others[0].0 == 0;
+    if l == cache::UNUSED {
+        return rest.first().map_or(true, |next| *next == cache::UNUSED);
     }
-    if l.0 < 6 {
-        return false;
-    }
-    !cache::holds(others, l.0 as u32)
+    6 <= l.0 && !rest.contains(&l)
 }
 
 // Whether the cached links are right by themselves: no unused place before a used one, chunks' links, all different, no more than there are places.
 fn links_right(c: [Link; 4], places: usize) -> bool
     ensures { result ≡ links_right places (numbers c) }
 {
-    let r0 = front_right(c[0], [c[1], c[2], c[3], Link(0)]);
-    if !r0 {
-        return false;
-    }
-    let r1 = front_right(c[1], [c[2], c[3], Link(0), Link(0)]);
-    if !r1 {
-        return false;
-    }
-    let r2 = front_right(c[2], [c[3], Link(0), Link(0), Link(0)]);
-    if !r2 {
-        return false;
-    }
-    let r3 = front_right(c[3], [Link(0), Link(0), Link(0), Link(0)]);
-    if !r3 {
-        return false;
+    for (i, l) in c.iter().enumerate() {
+        if !front_right(*l, &c[i + 1..]) {
+            return false;
+        }
     }
     cache::used_places(c) <= places
 }
@@ -116,44 +99,12 @@ fn links_right(c: [Link; 4], places: usize) -> bool
 fn figures_right(f: Figures, n: u32, sum: u32, held: usize, top: u32) -> bool
     ensures { result ≡ true ↔ FiguresFit f n sum held top }
 {
-    if f.words != n {
-        return false;
-    }
-    if n < 5 {
-        return false;
-    }
-    if 65529 < n {
-        return false;
-    }
-    if n % 2 == 0 {
-        return false;
-    }
-    if f.committed != sum {
-        return false;
-    }
-    if f.committed < f.in_use {
-        return false;
-    }
-    if (f.committed - f.in_use) as usize != held {
-        return false;
-    }
-    if f.peak < f.committed {
-        return false;
-    }
-    if f.high < f.peak {
-        return false;
-    }
-    let high = f.high;
-    if n * 4 - 4 < high {
-        return false;
-    }
-    if high % 8 != 0 {
-        return false;
-    }
-    if 1 < f.fresh {
-        return false;
-    }
-    top <= high
+    let length = f.words == n && 5 <= n && n <= 65529 && n % 2 == 1;
+    let bytes = f.committed == sum
+        && f.in_use <= f.committed
+        && (f.committed - f.in_use) as usize == held;
+    let marks = f.committed <= f.peak && f.peak <= f.high && top <= f.high && f.high % 8 == 0;
+    length && bytes && marks && f.high <= n * 4 - 4 && f.fresh <= 1
 }
 
 // Whether a record and its words are sound.
@@ -167,33 +118,18 @@ pub fn audit(
     ensures { result ≡ soundᵇ (ops narrow) 65529 places (shown prev next figures heap.now) }
 {
     let cached = figures.cached;
-    let links = links_right(cached, places);
-    if !links {
+    if !links_right(cached, places) || 65529 < heap.len() {
         return false;
     }
-    if 65529 < heap.len() {
-        return false;
-    }
-    let n = heap.len() as u32;
+    let ground = Ground { words: heap };
+    let n = ground.len();
     let ws = cached_words(n, cached);
-    let t = count_chunks(heap, ws);
-    let whole = t.whole;
-    if !whole {
+    let Some(t) = count_chunks(ground, ws) else {
+        return false;
+    };
+    if t.next != n || !figures_right(figures, n, t.sum, lengths_at(ground, ws), t.top) {
         return false;
     }
-    if t.next != n {
-        return false;
-    }
-    let held = lengths_at(heap, ws);
-    let right = figures_right(figures, n, t.sum, held, t.top);
-    if !right {
-        return false;
-    }
-    let first = t.first;
-    let frees = t.frees;
-    let rings = rings_right(prev, next, heap, first, frees);
-    if !rings {
-        return false;
-    }
-    lists_right(next, heap, first, frees)
+    rings_right(&prev, &next, ground, t.first, &t.frees)
+        && lists_right(&next, ground, t.first, &t.frees)
 }

@@ -6,8 +6,9 @@
 #![tactic(auto)]
 
 use heap::{Kind, Record};
-use map::Answer;
+use map::{InNumbers, Refusal};
 use std::io::Write;
+use stream::Course;
 
 fn main(rt: HostRuntime) {
     let mut memory = [0u32; 16383];
@@ -18,7 +19,7 @@ fn main(rt: HostRuntime) {
         false,
         Kind::Four,
     );
-    if ran.failed {
+    if ran.course == Course::Failed {
         return;
     }
     let trace = ran.trace;
@@ -26,33 +27,25 @@ fn main(rt: HostRuntime) {
     // 16,383 words have 65,528 bytes before the guard; a chunk has at least 16, so there are at most 4,095, and 19 times 4,096 bytes hold their lines
     let mut room = [0u8; 77824];
     let n = fill(rec, &memory, &mut room);
-    if n <= 77824 {
-        let _ = rt.stdout().write_all(&room[0..n]);
+    if let Some(bytes) = room.get(..n) {
+        let _ = rt.stdout().write_all(bytes);
     }
 }
 
-// Fills the room with the map of the heap that lies at the start of the memory, or with the answer line if there is none. Returns how many bytes.
+// Fills the room with the map of the heap in use, or with the answer line if there is none. Returns how many bytes.
 fn fill(rec: Record, memory: &[u32], room: &mut [u8]) -> usize {
-    let n = rec.words as usize;
-    if memory.len() < n {
-        return refuse(room, 5);
-    }
-    let answer = map::write_map(rec, &memory[0..n], room, Kind::Four);
-    match answer {
-        Answer::Done(chunks) => lines(room.len(), chunks),
-        Answer::Damaged => refuse(room, 5),
-        Answer::NoRoom => refuse(room, 6),
-        Answer::BadLine(k) => refuse(room, 7),
+    match chart(rec, memory, room) {
+        Ok(chunks) => chunks.saturating_mul(19).min(room.len()),
+        Err(refusal) => {
+            let told = InNumbers::from(Err(refusal));
+            frame::write_answer(room, told.number, told.value, 0);
+            19
+        }
     }
 }
 
-// The bytes of this many lines, as far as there is room.
-fn lines(room: usize, n: usize) -> usize {
-    if n <= room / 19 { n * 19 } else { room }
-}
-
-// One answer line with a number.
-fn refuse(room: &mut [u8], number: u8) -> usize {
-    frame::write_answer(room, number, 0, 0);
-    19
+// Writes the map of the heap that lies at the start of the memory.
+fn chart(rec: Record, memory: &[u32], room: &mut [u8]) -> Result<usize, Refusal> {
+    let heap = memory.get(..rec.words as usize).ok_or(Refusal::Damaged)?;
+    map::write_map(rec, heap, room, Kind::Four)
 }

@@ -1,37 +1,33 @@
 -- HOW MANY LINES A MAP HAS. Chunks of 16 bytes at least tile the words before the guard, so a sound heap of n words has at most (n - 1) / 4 of them.
 --     answer_counted    the number that comes with an answer of the map's writer fits 32 bits
---     reply_by          the outcome of a reply is that of one that is equal to it
+--     map_replied       what is replied to the writer's answer says its outcome
 --     room_suffices     room of 19 bytes for each four words before the guard is never too short
 -- Assumes nothing.
 use mathlib.Core.Path.{◌≡◌, refl, sym, ap, ◌∙◌}
 use mathlib.Core.Bool.{Bool, true, false}
 use mathlib.Core.List.{List}
-use Prim.Native.Nat.{ℕ, ◌-◌, ◌*◌, ◌/◌, ◌≤◌}
+use Prim.Native.Nat.{ℕ, ◌-◌, ◌*◌, ◌/◌, ◌≤◌, min}
 use native.Mathlib.Omega.{arith}
 use native.Mathlib.Decide.{dec_le}
 use lib.ListN.{length}
 use Rattle.words.specs.Choice.{bit}
-use Rattle.rules.specs.Rules.Calls.{Outcome}
+use Rattle.rules.specs.Rules.Calls.{Outcome, says}
 use Rattle.rules.specs.Rules.Making.{State}
 use Rattle.rules.specs.Sound.Sound.{Sound}
 use Rattle.rules.proofs.Tiling.Named.{chunks_few}
 use Rattle.rules.proofs.Demands.Decide.{sound_true, true_sound}
-use Rattle.heap.specs.declared.record.Record.{Record}
-use Rattle.heap.specs.Seen.{base, seen}
+use Rattle.heap.specs.Seen.{base}
 use Rattle.heap.specs.Answer.{sound_at}
 use Rattle.heap.proofs.Answers.{ours}
-use Rattle.map.specs.declared.rows.Answer.{Answer}
-use Rattle.map.specs.Answer.{told}
+use Rattle.std.specs.Prelude.{Result}
+use Rattle.map.specs.declared.refusal.Refusal.{Refusal}
+use Rattle.map.specs.declared.refusal.InNumbers.{InNumbers}
+use Rattle.map.specs.Answer.{number, value, told, in_numbers}
 use Rattle.map.specs.Calls.{rows_of, written}
 use Rattle.map.proofs.Lines.{length-map}
 use Rattle.map.proofs.Maps.{map_of_sound_heap, what_is_written}
 use Rattle.door.specs.declared.reply.Reply.{Reply}
-use Rattle.door.specs.Reply.{Counted, replied}
-
--- the outcome of a reply is that of one that is equal to it
-pub reply_by : (places : ℕ) (rec : Record) (ws before : List ℕ) (r q : Reply) (room : List ℕ) → r ≡ q
-    → replied q room ≡ written places (seen rec ws) before → replied r room ≡ written places (seen rec ws) before
-reply_by places rec ws before r q room e f = ap (λ (x : Reply). replied x room) e ∙ f
+use Rattle.door.specs.Reply.{three_of, Counted, replied}
 
 -- a sound heap has a row for each four words at most
 rows_few : (places : ℕ) (s : State) → Sound base 65529 places s → 4 * length (rows_of s) ≤ length s.words - 1
@@ -73,5 +69,12 @@ module _ (places : ℕ) (s : State) (room : List ℕ) where
       go false e = omega (arith, is ((what_is_written places s room).0 (not_sound places s e)))
 
 -- AN ANSWER'S NUMBER FITS
-pub answer_counted : (places : ℕ) (a : Answer) (s : State) (room vs : List ℕ) → told a vs ≡ written places s room → Counted a
+pub answer_counted : (places : ℕ) (a : Result ℕ Refusal) (s : State) (room vs : List ℕ) → told a vs ≡ written places s room → Counted a
 answer_counted places a s room vs e = omega (arith, ap (λ (o : Outcome (List ℕ)). o.value) e, written_few places s room)
+
+-- so what is replied says the writer's outcome
+pub map_replied : (places : ℕ) (s : State) (room vs : List ℕ) (a : Result ℕ Refusal) (n : InNumbers) (r : Reply)
+    → told a vs ≡ written places s room → n ≡ in_numbers a → r ≡ three_of n.number n.value 0 → replied r vs ≡ written places s room
+map_replied places s room vs a n r e f g =
+    let fits : min (value a) 4294967295 ≡ value a = omega (arith, answer_counted places a s room vs e) in
+    ap (λ (x : Reply). replied x vs) g ∙ ap (λ (x : InNumbers). says x.number x.value 0 vs) f ∙ ap (λ (v : ℕ). says (number a) v 0 vs) fits ∙ e

@@ -15,10 +15,8 @@ use Prim.Native.Nat.{ℕ, ◌^◌, ◌<◌}
 use native.Mathlib.Nat.{lt_trans}
 use lib.Dec.{lit<}
 use lib.ListN.{length, take, drop}
-use Rattle.frame.specs.declared.hex.Field.{Field}
-use Rattle.frame.specs.declared.hex.Field.TheVariants.{Number}
+use Rattle.std.specs.Prelude.{Option, Some}
 use Rattle.frame.specs.declared.line.Request.{Request}
-use Rattle.frame.specs.declared.line.Line.TheVariants.{Good}
 use Rattle.frame.specs.Hex.{all_digits, value_of, digits_of}
 use Rattle.frame.specs.Field.{field_of}
 use Rattle.frame.specs.Line.{line_of, number_of, frame_of}
@@ -29,24 +27,24 @@ use Rattle.frame.proofs.Laws.Line.{kind_below, length_frame, frame_digits, frame
 use Rattle.frame.proofs.Laws.Answer.{answer_number, answer_value, answer_compared, answer_digits, answer_end}
 
 -- a field is read as n exactly if n has 32 bits, the field has room for it, and the field is n's digits
-pub field_exactly : (bs : List ℕ) (n : ℕ) → (field_of bs ≡ Number n) ↔ ((n < 2 ^ 32) × (n < 16 ^ length bs) × (bs ≡ digits_of (length bs) n))
+pub field_exactly : (bs : List ℕ) (n : ℕ) → (field_of bs ≡ Some n) ↔ ((n < 2 ^ 32) × (n < 16 ^ length bs) × (bs ≡ digits_of (length bs) n))
 field_exactly bs n = (there, back)
   where
-    there : field_of bs ≡ Number n → (n < 2 ^ 32) × (n < 16 ^ length bs) × (bs ≡ digits_of (length bs) n)
+    there : field_of bs ≡ Some n → (n < 2 ^ 32) × (n < 16 ^ length bs) × (bs ≡ digits_of (length bs) n)
     there e =
         let f = field_number bs n (sym e) in
         (f.2, rw f.1 at (value_below bs f.0), sym (rw f.1 at (digits_of_value bs f.0)))
 
-    back : (n < 2 ^ 32) × (n < 16 ^ length bs) × (bs ≡ digits_of (length bs) n) → field_of bs ≡ Number n
+    back : (n < 2 ^ 32) × (n < 16 ^ length bs) × (bs ≡ digits_of (length bs) n) → field_of bs ≡ Some n
     back h = ap field_of h.2 ∙ field_of_digits (length bs) n h.1 h.0
 
 -- a line is read as a request exactly if its number has 32 bits and the line is its ten digits
-pub read_exactly : (l : List ℕ) (q : Request) → (line_of l ≡ Good q) ↔ ((number_of q < 2 ^ 32) × (l ≡ frame_of q))
+pub read_exactly : (l : List ℕ) (q : Request) → (line_of l ≡ Some q) ↔ ((number_of q < 2 ^ 32) × (l ≡ frame_of q))
 read_exactly l q = (frame_of_line l q, λ h. ap line_of h.1 ∙ line_of_frame q h.0)
 
 -- a line is read as a request exactly if it is ten digits and two of them say a kind below 03
 pub frames_exactly : (l : List ℕ)
-    → ((q : Request) × (line_of l ≡ Good q)) ↔ ((length l ≡ 10) × (all_digits l ≡ true) × (value_of (take 2 l) < 3))
+    → ((q : Request) × (line_of l ≡ Some q)) ↔ ((length l ≡ 10) × (all_digits l ≡ true) × (value_of (take 2 l) < 3))
 frames_exactly l = (λ r. there r.0 (frame_of_line l r.0 r.1).1, λ h. frame_of_digits l h.0 h.1 h.2)
   where
     there : (q : Request) → l ≡ frame_of q → (length l ≡ 10) × (all_digits l ≡ true) × (value_of (take 2 l) < 3)
@@ -55,14 +53,14 @@ frames_exactly l = (λ r. there r.0 (frame_of_line l r.0 r.1).1, λ h. frame_of_
         (length_frame q, frame_digits q, rw (frame_kind q) (kind_below q))
 
 -- a request's ten digits are read as that request
-pub request_read_back : (q : Request) → number_of q < 2 ^ 32 → line_of (frame_of q) ≡ Good q
+pub request_read_back : (q : Request) → number_of q < 2 ^ 32 → line_of (frame_of q) ≡ Some q
 request_read_back q h = line_of_frame q h
 
 -- an answer's three fields are read as its number, value and compared count
 pub answer_read_back : (number value compared : ℕ) → number < 2 ^ 8 → value < 2 ^ 32 → compared < 2 ^ 32
-    → (field_of (take 2 (answer_bytes number value compared)) ≡ Number number)
-    × (field_of (take 8 (drop 2 (answer_bytes number value compared))) ≡ Number value)
-    × (field_of (take 8 (drop 10 (answer_bytes number value compared))) ≡ Number compared)
+    → (field_of (take 2 (answer_bytes number value compared)) ≡ Some number)
+    × (field_of (take 8 (drop 2 (answer_bytes number value compared))) ≡ Some value)
+    × (field_of (take 8 (drop 10 (answer_bytes number value compared))) ≡ Some compared)
 answer_read_back number value compared n v c = (
   ap field_of (answer_number number value compared) ∙ field_of_digits 2 number n (lt_trans n (lit< tt)),
   ap field_of (answer_value number value compared) ∙ field_of_digits 8 value v v,
@@ -80,7 +78,7 @@ answers_told_apart a b c x y z an bn cn xn yn zn e =
       same (sym r.2 ∙ ap (λ (l : List ℕ). field_of (take 8 (drop 10 l))) e ∙ s.2),
     )
   where
-    same : {m n : ℕ} → ◌≡◌ {A = Field} (Number m) (Number n) → m ≡ n
+    same : {m n : ℕ} → ◌≡◌ {A = Option ℕ} (Some m) (Some n) → m ≡ n
     same h = cc
 
 -- an answer is eighteen digits and a line feed

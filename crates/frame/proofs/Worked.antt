@@ -5,9 +5,9 @@ use Prim.Native.Nat.{ℕ}
 use lib.ListN.{replicate}
 use Prim.Native.Char.{code}
 use Prim.Native.String.{String}
+use Rattle.std.specs.Prelude.{Option, Some, None}
+use Rattle.frame.specs.declared.line.Request.{Request}
 use Rattle.frame.specs.declared.line.Request.TheVariants.{Make, HandOut, TakeBack}
-use Rattle.frame.specs.declared.line.Line.{Line}
-use Rattle.frame.specs.declared.line.Line.TheVariants.{Good, Bad}
 use Rattle.frame.specs.Hex.{digit_of, byte_of, digits_of}
 use Rattle.frame.specs.Line.{line_of}
 use Rattle.frame.specs.Answer.{answer_bytes}
@@ -18,15 +18,15 @@ bytes String.[] = []
 bytes (String.◌∷◌ c s) = code c ∷ bytes s
 
 -- a line of text, read
-abbrev line : String → Line
+abbrev line : String → Option Request
 line t = line_of (bytes t)
 
 -- the trace's input, each of its lines once
 pub trace_read :
     map line
     ("0000000021" ∷ "010000000D" ∷ "010000000C" ∷ "0200000004" ∷ "0100000014" ∷ "020000001C" ∷ "01FFFFFFFF" ∷ "0100000000" ∷ "0100000058" ∷ [])
-    ≡ Good (Make 33) ∷ Good (HandOut 13) ∷ Good (HandOut 12) ∷ Good (TakeBack 4) ∷ Good (HandOut 20) ∷ Good (TakeBack 28) ∷ Good (HandOut 4294967295)
-    ∷ Good (HandOut 0) ∷ Good (HandOut 88) ∷ []
+    ≡ Some (Make 33) ∷ Some (HandOut 13) ∷ Some (HandOut 12) ∷ Some (TakeBack 4) ∷ Some (HandOut 20) ∷ Some (TakeBack 28) ∷ Some (HandOut 4294967295)
+    ∷ Some (HandOut 0) ∷ Some (HandOut 88) ∷ []
 unfolding line_of digit_of
 trace_read = refl
 
@@ -35,7 +35,7 @@ pub no_frames :
     map line
     ("" ∷ "000000021" ∷ "00000000021" ∷ "010000000d" ∷ "0300000004" ∷ "0000000021\r" ∷ "00 0000021" ∷ "000000002/" ∷ "000000002:" ∷ "000000002@"
     ∷ "000000002G" ∷ [])
-    ≡ replicate 11 Bad
+    ≡ replicate 11 None
 unfolding line_of digit_of
 no_frames = refl
 

@@ -1,9 +1,13 @@
 -- HEXADECIMAL (document 01, "Trace frames"): digits 0–9 A–F as ASCII has them, upper case only, the most significant first.
-use Rattle.std.specs.Prelude.{Bool, true, ◌&&◌, cond, List, [], ◌∷◌, ◌++◌, ℕ, zero, suc, ◌+◌, ◌-◌, ◌*◌, ◌/◌, ◌%◌, leb, ltb}
+use Rattle.std.specs.Prelude.{Option, Some, None, Bool, true, ◌&&◌, cond, List, [], ◌∷◌, ◌++◌, ℕ, zero, suc, ◌+◌, ◌-◌, ◌*◌, ◌/◌, ◌%◌, leb, ltb}
 
 -- the value of a digit; 16 for any other byte
 unfoldable pub digit_of : ℕ → ℕ
 digit_of b = cond (leb 48 b && leb b 57) (b - 48) (cond (leb 65 b && leb b 70) (b - 55) 16)
+
+-- the same as the code has it: none for any other byte
+unfoldable pub digit_in : ℕ → Option ℕ
+digit_in b = cond (ltb (digit_of b) 16) (Some (digit_of b)) None
 
 -- the digit of a value below 16
 unfoldable pub byte_of : ℕ → ℕ

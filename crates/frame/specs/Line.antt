@@ -1,21 +1,19 @@
 -- LINES OF INPUT (document 01, "Trace frames"): which lines are frames, what they ask for, and the frame of a request.
-use Rattle.std.specs.Prelude.{◌&&◌, cond, List, ◌++◌, ℕ, zero, suc, eqb, length, take, drop}
+use Rattle.std.specs.Prelude.{Option, Some, None, ◌&&◌, cond, List, ◌++◌, ℕ, zero, suc, eqb, length, take, drop}
 use Rattle.frame.specs.declared.line.Request.{Request}
 use Rattle.frame.specs.declared.line.Request.TheVariants.{Make, HandOut, TakeBack}
-use Rattle.frame.specs.declared.line.Line.{Line}
-use Rattle.frame.specs.declared.line.Line.TheVariants.{Good, Bad}
 use Rattle.frame.specs.Hex.{all_digits, value_of, digits_of}
 
 -- kinds: 00 make, 01 hand out, 02 take back; no others
-abbrev pub request_of : ℕ → ℕ → Line
-request_of zero n = Good (Make n)
-request_of (suc zero) n = Good (HandOut n)
-request_of (suc (suc zero)) n = Good (TakeBack n)
-request_of (suc (suc (suc k))) n = Bad
+abbrev pub request_of : ℕ → ℕ → Option Request
+request_of zero n = Some (Make n)
+request_of (suc zero) n = Some (HandOut n)
+request_of (suc (suc zero)) n = Some (TakeBack n)
+request_of (suc (suc (suc k))) n = None
 
 -- a line without its line feed: a frame is ten digits, two for the kind and eight for the number; any other line is no frame
-unfoldable pub line_of : List ℕ → Line
-line_of l = cond (eqb (length l) 10 && all_digits l) (request_of (value_of (take 2 l)) (value_of (drop 2 l))) Bad
+unfoldable pub line_of : List ℕ → Option Request
+line_of l = cond (eqb (length l) 10 && all_digits l) (request_of (value_of (take 2 l)) (value_of (drop 2 l))) None
 
 -- a request's kind
 abbrev pub kind_of : Request → ℕ

@@ -6,6 +6,7 @@ ghost use Rattle.frame.specs.Answer.{answered};
 use super::hex::write_field;
 
 // Writes an answer's 19 bytes at the start of `out`. If `out` is too short for them, it stays as it is.
+#[tactic(auto, using(crate::proofs::Laws::Answer::by_room))]
 pub fn write_answer(out: &mut [u8], number: u8, value: u32, compared: u32)
     ensures { out.new ≡ answered out.old number value compared }
 {

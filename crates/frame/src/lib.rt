@@ -13,5 +13,5 @@ mod hex;
 mod line;
 
 pub use answer::write_answer;
-pub use hex::{Field, read_field, write_field};
-pub use line::{Line, Request, read_line};
+pub use hex::{read_field, write_field};
+pub use line::{Request, read_line};

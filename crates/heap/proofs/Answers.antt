@@ -1,7 +1,7 @@
 -- How the public calls join: of each way out of a call, that its callees' promises give the rules' outcome. Assumes nothing.
 --     ours            narrow links, up to 65,529 words, any number of cache places: the editions that this heap is
 --     sound_four      what is sound for a kind is sound with four places
---     make_..         making;  one_chunk_by: its one free chunk
+--     make_..         making, refused and done;  one_chunk_by: its one free chunk
 --     cache_packed    in a sound pair no unused place stands before a used one
 --     served_..       a handout from the cache;  listed_..: from the lists;  found_taken: what a search found
 --     oldest_..       the oldest cached chunk, let go
@@ -14,40 +14,46 @@ use mathlib.Core.List.Memᴰ
 use mathlib.Core.List.{List, [], ◌∷◌, ◌++◌}
 use Prim.Native.Nat.{ℕ, ◌+◌, ◌-◌, ◌*◌, ◌/◌, ◌%◌, ◌^◌, ◌≤◌, ◌<◌, min}
 use native.Mathlib.Omega.{arith}
-use borrow.Author.Tests.{ltb-true, ltb-false, lt-ltb, le-ltb, lt-leb, le-leb, leb-true, eq-eqb, ne_eqb}
-use lib.Dec.{leb, ltb}
+use borrow.Author.Tests.{lt-ltb, le-ltb, lt-leb, le-leb, leb-true, eq-eqb, ne_eqb}
+use lib.Dec.{leb}
 use lib.ListN.{length, get_or, set, drop, length-append}
+use Rattle.std.specs.Prelude.{zero, suc, Option, Some, None, Result, Ok, Err, IsErrAnd}
+use Rattle.std.specs.Option.{ok_or}
 use Rattle.words.specs.declared.names.Link.{Link}
-use Rattle.words.specs.declared.names.ByteOffset.{ByteOffset}
 use Rattle.words.specs.Choice.{pick}
 use Rattle.words.specs.Numbers.{numbers}
 use Rattle.words.proofs.Laws.Numbers.{numbers_at, length_numbers}
 use Rattle.words.specs.Names.{links, offsets, payloads, held_name}
-use Rattle.words.specs.Sizes.{class_of, rounded_of, threshold_of}
+use Rattle.words.specs.Sizes.{class_of, rounded_of}
 use Rattle.words.specs.Tags.{at, length_of, right_of}
-use Rattle.words.specs.Links.{narrow}
 use Rattle.rules.specs.Rules.Lists.{Mem}
 use Rattle.rules.specs.Rules.Steps.{portion, length_at, unlink, link, set_left, clear_left, mark_free, mark_used, one_chunk, return_excess, take_chunk, emptied, left_free, right_free, merge, merged, release_chunk}
 use Rattle.rules.specs.Rules.Search.{Found, nowhere, lost}
 use Rattle.rules.specs.Rules.Search as rule
 use Rattle.rules.specs.Rules.Calls.{Figures, Outcome, says, byte_of, name_of, one, never, choose, listed, counted, released, let_go, without_cache, first_fit, took, from_merged, from_list, from_cache, serve, hand_out, live, settled, take_back}
 use Rattle.rules.specs.Rules.Calls as rules
-use Rattle.rules.specs.Rules.Making.{State, make}
+use Rattle.rules.specs.Rules.Making.{State, make, acceptedᵇ}
 use Rattle.rules.specs.Demands.Meaning.{hand, back}
 use Rattle.rules.specs.Rules.Place.{used_walk}
 use Rattle.rules.proofs.Tiling.Place.{used_tile}
 use Rattle.heap.specs.declared.record.Record.{Record}
 use Rattle.heap.specs.declared.kind.Kind.{Kind}
 use Rattle.heap.specs.declared.kind.Kind.TheVariants.{One, Four}
-use Rattle.heap.specs.declared.calls.Answer.TheVariants.{Done, ZeroSize, TooLarge, NotLive, Damaged, BadLength, NeverFits}
-use Rattle.heap.specs.Seen.{seen, base, figures_of, with_cached, counted_in, counted_out, empty_record, fresh_record, FourPlaces}
+use Rattle.heap.specs.declared.answer.Done.{Done}
+use Rattle.heap.specs.declared.answer.Refusal.{Refusal}
+use Rattle.heap.specs.declared.answer.Refusal.TheVariants.{ZeroSize, TooLarge, NotLive, Damaged, BadLength, NeverFits}
+use Rattle.heap.specs.Seen.{seen, base, figures_of, with_cached, counted_in, counted_out, fresh_record, FourPlaces}
 use Rattle.heap.specs.Kind.{places_of}
 use Rattle.steps.specs.Chunk.{freed_in, freed, left_free_in, right_free_in, emptied_in, Releasable}
+use Rattle.steps.specs.Found.{told_at}
+use Rattle.steps.specs.Live.{if_used}
 use Rattle.steps.proofs.Neighbours.{freed_plain}
 use Rattle.heap.proofs.Joins.{emptied_seen}
-use Rattle.heap.specs.Answer.{outcome, sound_at, Served, Fitting, Missed}
-use Rattle.cache.specs.Places.{cached_of, used_places, left_out, choice_of}
-use Rattle.cache.proofs.Laws.{Packed, packed, length_cached, set_last, turned, oldest_cached, choose_hit, choose_miss, listed_cached}
+use Rattle.heap.specs.Answer.{outcome, out_after, out_made, sound_at, Served, Fitting, Missed}
+use Rattle.heap.specs.Promises.{Makes}
+use Rattle.cache.specs.Places.{cached_of, used_places, left_out, oldest_of}
+use Rattle.cache.proofs.Laws.{Packed, packed, length_cached, set_last, turned, oldest_cached, choose_hit, choose_miss, listed_cached, oldest_some, oldest_none}
+use Rattle.std.specs.Prelude.{Some, None}
 use Rattle.rules.proofs.Steps.Store.{Edition}
 use Rattle.rules.proofs.Demands.Decide.{sound_more}
 use Rattle.rules.proofs.Demands.Cache.{Picked, choose_picked}
@@ -67,31 +73,19 @@ one_chunk_by r q ws ws1 ws2 ws3 n g b k h most eg eb e1 e2 ek eq =
     let p : 4 * (n - 1) / 4 ≡ n - 1 = omega arith in
     eq ∙ rw (e2, tags, ek, eb, eg) (rw p refl)
 
-pub make_short : (ws : List ℕ) → length ws < 5 → outcome BadLength (seen empty_record ws) ≡ make narrow 65529 ws
+pub make_refused : (ws : List ℕ) (b : Bool) → b ≡ acceptedᵇ 65529 (length ws) → b ≡ false → Makes ws (out_made (Err BadLength)) ws
 unfolding make cached_of
-make_short ws h = rw (lt-leb _ _ h)
+make_refused ws b e f = rw (sym e ∙ f)
 
-pub make_long : (ws : List ℕ) → 65529 < length ws → outcome BadLength (seen empty_record ws) ≡ make narrow 65529 ws
+pub make_done : (r q : Record) (ws ws1 : List ℕ) (n : ℕ) (b : Bool) → b ≡ acceptedᵇ 65529 (length ws) → b ≡ true → n ≡ length ws → r ≡ fresh_record n
+    → seen q ws1 ≡ one_chunk base (seen r ws) (4 * (length ws - 1)) → Makes ws (out_made (Ok q)) ws1
 unfolding make cached_of
-make_long ws h = let p : 5 ≤ length ws = omega arith in rw (le-leb _ _ p, lt-leb _ _ h)
-
-pub make_even : (ws : List ℕ) → 5 ≤ length ws → length ws ≤ 65529 → (length ws % 2 ≡ 1 → ⊥) → outcome BadLength (seen empty_record ws) ≡ make narrow 65529 ws
-unfolding make cached_of
-make_even ws h k e = rw (le-leb _ _ h, le-leb _ _ k, ne_eqb _ _ e)
-
-pub make_done : (r q : Record) (ws ws1 : List ℕ) (n : ℕ) → n ≡ length ws → 5 ≤ length ws → length ws ≤ 65529 → length ws % 2 ≡ 1 → r ≡ fresh_record n
-    → seen q ws1 ≡ one_chunk base (seen r ws) (4 * (length ws - 1)) → says 0 0 0 (seen q ws1) ≡ make narrow 65529 ws
-unfolding make cached_of
-make_done r q ws ws1 n en h k e er eq = rw (le-leb _ _ h, le-leb _ _ k, eq-eqb _ _ e) (ap (says 0 0 0) (eq ∙ rw (er, en) refl))
+make_done r q ws ws1 n b e f en er eq = rw (sym e ∙ f) (ap (says 0 0 0) (eq ∙ rw (er, en) refl))
 
 -- ---- THE EDITION, and what its soundness says of a record
 
 pub ours : (places : ℕ) → Edition base 65529 places
 ours places = edition narrow_lawful 65529 places narrow_fits
-
--- an audit of as many places as a kind has
-pub sound_by : (s : State) (b : Bool) (m places : ℕ) → b ≡ sound_at m s → m ≡ places → b ≡ sound_at places s
-sound_by s b m places e h = e ∙ ap (λ (n : ℕ). sound_at n s) h
 
 -- each kind has a place, and at most four
 pub places_some : (k : Kind) → 0 < places_of k
@@ -124,9 +118,9 @@ payload_place x i p ei hi ep = omega arith
 pub cache_packed : (r : Record) (ws : List ℕ) → sound_at 4 (seen r ws) ≡ true → Packed (numbers r.cached)
 cache_packed r ws ok = packed (numbers r.cached) (λ m. let n = (cached_fitsᵇ (ours 4) (seen r ws) ok 0 m).named in omega arith)
 
--- k is the place of the oldest cached chunk that serves z bytes, or 4
+-- the oldest cached chunk that serves z bytes stands in place k
 module _ (r : Record) (ws : List ℕ) (z k : ℕ) (h : Served (seen r ws) z) (four : FourPlaces r)
-    (ek : k ≡ choice_of (λ l. length_of (at ws (l - 6))) z (numbers r.cached)) where
+    (told : Some k ≡ oldest_of (λ l. length_of (at ws (l - 6))) z (numbers r.cached)) where
   -- the lengths that the headers say, and the link in that place
   abbrev size : ℕ → ℕ
   size = length_at base (seen r ws)
@@ -134,53 +128,58 @@ module _ (r : Record) (ws : List ℕ) (z k : ℕ) (h : Served (seen r ws) z) (fo
   abbrev found : ℕ
   found = get_or (numbers r.cached) k 0
 
-  chosen : k < 4 → choose size z (cached_of (numbers r.cached)) ≡ one found (cached_of (left_out k (numbers r.cached)))
-  chosen i = let l = length_numbers r.cached in choose_hit size z (numbers r.cached) k (cache_packed r ws h.sound) ek (omega (arith, l, four, i))
+  -- a place of the four
+  pub place : k < 4
+  place = let o = oldest_some size z (numbers r.cached) k told in omega (arith, o.1, length_numbers r.cached, four)
+
+  chosen : choose size z (cached_of (numbers r.cached)) ≡ one found (cached_of (left_out k (numbers r.cached)))
+  chosen = let o = oldest_some size z (numbers r.cached) k told in choose_hit size z (numbers r.cached) k (cache_packed r ws h.sound) o.0 o.1
 
   -- it is a cached chunk's
-  is_cached : k < 4 → Mem found (cached_of (numbers r.cached))
-  is_cached i =
+  is_cached : Mem found (cached_of (numbers r.cached))
+  is_cached =
       let ks = cached_of (numbers r.cached) in
-      (subst (Picked size z (cached_of (numbers r.cached))) (chosen i) (choose_picked size z ks)).1
+      (subst (Picked size z (cached_of (numbers r.cached))) chosen (choose_picked size z ks)).1
 
   -- its header's word, as the code finds it
   word_of : (i : ℕ) → i ≡ (get_or r.cached k (record { 0 = 0 })).0 - 6 → i ≡ found - 6
   word_of i e = e ∙ ap (λ (x : ℕ). x - 6) (sym (numbers_at r.cached k))
 
   -- HANDED OUT FROM THE CACHE, whole, its payload emptied
-  pub served_cached : (q : Record) (ws1 : List ℕ) (c : List Link) (i n u : ℕ) (p : ByteOffset) → k < 4 → i ≡ (get_or r.cached k (record { 0 = 0 })).0 - 6
-      → n ≡ length_of (at ws i) → ws1 ≡ emptied_in ws i n → u ≡ r.in_use + n → p.0 ≡ held_name payloads i
-      → numbers c ≡ left_out (min k 3) (numbers r.cached) → q ≡ with_cached r u c → outcome (Done p 0) (seen q ws1) ≡ serve base (seen r ws) z
+  pub served_cached : (q : Record) (ws1 : List ℕ) (c : List Link) (i n u : ℕ) (d : Done) → i ≡ (get_or r.cached k (record { 0 = 0 })).0 - 6
+      → n ≡ length_of (at ws i) → ws1 ≡ emptied_in ws i n → u ≡ r.in_use + n → d.payload.0 ≡ held_name payloads i → d.compared ≡ 0
+      → numbers c ≡ left_out (min k 3) (numbers r.cached) → q ≡ with_cached r u c → outcome (Ok d) (seen q ws1) ≡ serve base (seen r ws) z
   unfolding serve from_cache
-  served_cached q ws1 c i n u p hk ei en ec eu ep eo eq =
+  served_cached q ws1 c i n u d ei en ec eu ep none eo eq =
       let w : i ≡ found - 6 = word_of i ei in
-      let in_heap = (cached_fitsᵇ (ours 4) (seen r ws) h.sound found (is_cached hk)).inside in
+      let in_heap = (cached_fitsᵇ (ours 4) (seen r ws) h.sound found is_cached).inside in
       let words = (figures_fitᵇ (ours 4) (seen r ws) h.sound).accepted in
       let hi : i < 65536 = omega (arith, w, in_heap, words) in
-      let v : p.0 ≡ byte_of found + 4 = payload_place found i p.0 w hi ep in
+      let v : d.payload.0 ≡ byte_of found + 4 = payload_place found i d.payload.0 w hi ep in
       let m : n ≡ size found = en ∙ ap (λ (j : ℕ). length_of (at ws j)) w in
-      let least : min k 3 ≡ k = omega (arith, hk) in
+      let least : min k 3 ≡ k = omega (arith, place) in
       let others : cached_of (numbers c) ≡ cached_of (left_out k (numbers r.cached)) =
       ap cached_of (eo ∙ ap (λ (j : ℕ). left_out j (numbers r.cached)) least) in
       let state : seen q ws1 ≡ emptied base (seen q ws) (found - 6) (size found) =
       ap (λ (vs : List ℕ). seen q vs) ec ∙ emptied_seen q ws i n ∙ ap (λ (j : ℕ). emptied base (seen q ws) i j) m
       ∙ ap (λ (j : ℕ). emptied base (seen q ws) j (size found)) w in
-      rw (chosen hk, v, state, eq, eu, m, others) refl
-
-  -- and not: the lists are searched
-  pub served_listed : (o : Outcome State) → 4 ≤ k → o ≡ from_list base (seen r ws) z (first_fit base (seen r ws) z) → o ≡ serve base (seen r ws) z
-  unfolding serve from_cache
-  served_listed o i eo =
-      let l = length_numbers r.cached in
-      rw (choose_miss size z (numbers r.cached) k (cache_packed r ws h.sound) ek (omega (arith, l, four, i))) eo
+      rw (chosen, v, none, state, eq, eu, m, others) refl
 
   -- in use and its length are both committed: their sum stays in range
-  pub served_safe : (i n : ℕ) → k < 4 → r.committed < 2 ^ 32 → i ≡ (get_or r.cached k (record { 0 = 0 })).0 - 6 → n ≡ length_of (at ws i)
+  pub served_safe : (i n : ℕ) → r.committed < 2 ^ 32 → i ≡ (get_or r.cached k (record { 0 = 0 })).0 - 6 → n ≡ length_of (at ws i)
       → r.in_use + n < 2 ^ 32
-  served_safe i n hk hc ei en =
+  served_safe i n hc ei en =
       let v : n ≡ size found = en ∙ ap (λ (j : ℕ). length_of (at ws j)) (word_of i ei) in
-      let c = cached_heldᵇ (ours 4) (seen r ws) h.sound found (is_cached hk) in
+      let c = cached_heldᵇ (ours 4) (seen r ws) h.sound found is_cached in
       omega (arith, c, v, hc)
+
+-- no cached chunk serves: the lists are searched
+pub served_listed : (r : Record) (ws : List ℕ) (z : ℕ) → Served (seen r ws) z → None ≡ oldest_of (λ l. length_of (at ws (l - 6))) z (numbers r.cached)
+    → (o : Outcome State) → o ≡ from_list base (seen r ws) z (first_fit base (seen r ws) z) → o ≡ serve base (seen r ws) z
+unfolding serve from_cache
+served_listed r ws z h told o eo =
+    let size : ℕ → ℕ = length_at base (seen r ws) in
+    rw (choose_miss size z (numbers r.cached) _ (cache_packed r ws h.sound) refl (oldest_none size z (numbers r.cached) told)) eo
 
 -- ---- THE LISTS
 
@@ -218,43 +217,39 @@ module _ (r : Record) (ws : List ℕ) (z : ℕ) (h : Served (seen r ws) z) where
   walks : (f : Found) → f ≡ walked_fit base (seen r ws) z → f ≡ first_fit base (seen r ws) z
   walks f e = e ∙ walked_fitᵇ (ours 4) (seen r ws) h.sound z
 
-  pub listed_lost : lost ≡ walked_fit base (seen r ws) z
-      → outcome Damaged (seen r ws) ≡ from_list base (seen r ws) z (first_fit base (seen r ws) z)
-  listed_lost e = absurd (never_lostᵇ (ours 4) (seen r ws) h.sound z (sym (walks lost e)))
+  -- it is never lost
+  pub never_lost : lost ≡ walked_fit base (seen r ws) z → ⊥
+  never_lost e = never_lostᵇ (ours 4) (seen r ws) h.sound z (sym (walks lost e))
 
-  -- a search compares few
-  pub nowhere_safe : (c : ℕ) → nowhere c ≡ walked_fit base (seen r ws) z → c < 65536
-  nowhere_safe c e =
+  -- and it compares few
+  pub met_few : (at : Option Link) (c : ℕ) → told_at at c ≡ walked_fit base (seen r ws) z → c < 65536
+  met_few (Some l) c e =
+      let q = (found_fitsᵇ (ours 4) (seen r ws) h.sound z l.0 c (sym (walks (rule.at l.0 c) e))).counted in
+      let f = (figures_fitᵇ (ours 4) (seen r ws) h.sound).accepted in
+      omega arith
+  met_few None c e =
       let q = nowhere_shortᵇ (ours 4) (seen r ws) h.sound z c (sym (walks (nowhere c) e)) in
       let f = (figures_fitᵇ (ours 4) (seen r ws) h.sound).accepted in
       omega arith
 
-  pub found_few : (x c : ℕ) → rule.at x c ≡ walked_fit base (seen r ws) z → c < 65536
-  found_few x c e =
-      let q = (found_fitsᵇ (ours 4) (seen r ws) h.sound z x c (sym (walks (rule.at x c) e))).counted in
-      let f = (figures_fitᵇ (ours 4) (seen r ws) h.sound).accepted in
-      omega arith
-
   -- where it finds nothing, the rules go on with the cache emptied
-  pub missed : (c d : ℕ) → d ≡ c → nowhere c ≡ walked_fit base (seen r ws) z → Missed (seen r ws) z d
-  missed c d ed e = record { served = h; none = sym (walks (nowhere c) e) ∙ ap nowhere (sym ed) }
+  pub missed : (c : ℕ) → nowhere c ≡ walked_fit base (seen r ws) z → Missed (seen r ws) z c
+  missed c e = record { served = h; none = sym (walks (nowhere c) e) }
 
-  pub listed_nowhere : (o : Outcome State) (c d : ℕ) → d ≡ c → nowhere c ≡ walked_fit base (seen r ws) z
-      → o ≡ from_merged base (seen r ws) z d (first_fit base (without_cache base (seen r ws)) z)
+  pub listed_nowhere : (o : Outcome State) (c : ℕ) → nowhere c ≡ walked_fit base (seen r ws) z
+      → o ≡ from_merged base (seen r ws) z c (first_fit base (without_cache base (seen r ws)) z)
       → o ≡ from_list base (seen r ws) z (first_fit base (seen r ws) z)
   unfolding from_list
-  listed_nowhere o c d ed e eo =
-      eo ∙ ap (λ (k : ℕ). from_merged base (seen r ws) z k (first_fit base (without_cache base (seen r ws)) z)) ed
-      ∙ ap (from_list base (seen r ws) z) (walks (nowhere c) e)
+  listed_nowhere o c e eo = eo ∙ ap (from_list base (seen r ws) z) (walks (nowhere c) e)
 
   -- the chunk that it finds may be taken, and taking it is what the rules do
   pub fitting : (x c : ℕ) → rule.at x c ≡ walked_fit base (seen r ws) z → Fitting (seen r ws) z x
   fitting x c e = record { served = h; met = c; found = sym (walks (rule.at x c) e) }
 
-  pub listed_found : (o : Outcome State) (x c d : ℕ) → d ≡ c → rule.at x c ≡ walked_fit base (seen r ws) z
-      → o ≡ took base (seen r ws) z x d → o ≡ from_list base (seen r ws) z (first_fit base (seen r ws) z)
+  pub listed_found : (o : Outcome State) (x c : ℕ) → rule.at x c ≡ walked_fit base (seen r ws) z
+      → o ≡ took base (seen r ws) z x c → o ≡ from_list base (seen r ws) z (first_fit base (seen r ws) z)
   unfolding from_list
-  listed_found o x c d ed e eo = eo ∙ ap (λ (k : ℕ). took base (seen r ws) z x k) ed ∙ ap (from_list base (seen r ws) z) (walks (rule.at x c) e)
+  listed_found o x c e eo = eo ∙ ap (from_list base (seen r ws) z) (walks (rule.at x c) e)
 
 -- TAKEN FROM A LIST: the chunk that link x names, for z bytes
 module _ (r : Record) (ws : List ℕ) (z x : ℕ) (h : Fitting (seen r ws) z x) where
@@ -301,11 +296,11 @@ module _ (r : Record) (ws : List ℕ) (z x : ℕ) (h : Fitting (seen r ws) z x) 
       let w : a.committed ≡ r.committed = ap (λ (g : Figures). g.committed) kept in
       (omega arith, omega arith)
 
-  pub found_taken : (a q : Record) (ws1 ws2 : List ℕ) (i n m j e c : ℕ) (p : ByteOffset)
+  pub found_taken : (a q : Record) (ws1 ws2 : List ℕ) (i n m j e c : ℕ) (d : Done)
       → i ≡ x - 6 → n ≡ length_of (at ws i) → m ≡ portion n z → seen a ws1 ≡ take_chunk base (seen r ws) (x - 6) n z → ws2 ≡ emptied_in ws1 i m
-      → j ≡ right_of i m % 2 ^ 64 → e ≡ held_name offsets j → q ≡ counted_in a m e → p.0 ≡ held_name payloads i
-      → outcome (Done p c) (seen q ws2) ≡ took base (seen r ws) z x c
-  found_taken a q ws1 ws2 i n m j e c p ei en em ea ec ej ee eq ep =
+      → j ≡ right_of i m % 2 ^ 64 → e ≡ held_name offsets j → q ≡ counted_in a m e → d.payload.0 ≡ held_name payloads i → d.compared ≡ c
+      → outcome (Ok d) (seen q ws2) ≡ took base (seen r ws) z x c
+  found_taken a q ws1 ws2 i n m j e c d ei en em ea ec ej ee eq ep ed =
       let g = found_safe in
       let f = figures_safe.accepted in
       let v : n ≡ length_at base (seen r ws) x = en ∙ ap (λ (k : ℕ). length_of (at ws k)) ei in
@@ -315,7 +310,7 @@ module _ (r : Record) (ws : List ℕ) (z x : ℕ) (h : Fitting (seen r ws) z x) 
       let low : i < 65536 = let u = g.inside in omega arith in
       let short : m < 2 ^ 20 = let u = g.inside in omega arith in
       let end : e ≡ byte_of x + m = end_place x i m j e ei low short m8 ej ee in
-      let pay : p.0 ≡ byte_of x + 4 = payload_place x i p.0 ei low ep in
+      let pay : d.payload.0 ≡ byte_of x + 4 = payload_place x i d.payload.0 ei low ep in
       let kept = figures_kept r a ws ws1 (x - 6) n z ea in
       let state : seen q ws1 ≡ base.set_rest (take_chunk base (seen r ws) (x - 6) n z) (counted (figures_of r) m (byte_of x + m)) =
       rw (eq, end) (ap (λ (k : Figures). base.set_rest (seen a ws1) (counted k m (byte_of x + m))) kept
@@ -323,33 +318,43 @@ module _ (r : Record) (ws : List ℕ) (z x : ℕ) (h : Fitting (seen r ws) z x) 
       let empty : seen q ws2 ≡ emptied base (base.set_rest (take_chunk base (seen r ws) (x - 6) n z) (counted (figures_of r) m (byte_of x + m))) (x - 6) m =
       ap (λ (vs : List ℕ). seen q vs) ec ∙ emptied_seen q ws1 i m ∙ ap (λ (s : State). emptied base s i m) state
       ∙ ap (λ (k : ℕ). emptied base (base.set_rest (take_chunk base (seen r ws) (x - 6) n z) (counted (figures_of r) m (byte_of x + m))) k m) ei in
-      rw (empty, pay, em, v) refl
+      rw (empty, pay, ed, em, v) refl
 
 -- ---- WHAT IS LIVE
 
 module _ (r : Record) (ws : List ℕ) (p : ℕ) where
-  pub live_low : p < 4 → 0 ≡ live base (seen r ws) p
+  pub live_low : p < 4 → None ≡ if_used (live base (seen r ws) p)
   unfolding live
   live_low h = rw (lt-leb _ _ h) refl
 
-  -- its link is among the cached chunks' exactly where it stands in a place of the cache
-  among : 4 ≤ p → listed ((p - 4) / 4 + 6) (cached_of (numbers r.cached)) ≡ listed ((p - 4) / 4 + 6) (numbers r.cached)
-  among h = listed_cached ((p - 4) / 4 + 6) (numbers r.cached) (λ q. omega arith)
+  module _ (b : ℕ) (h : 4 ≤ p) (eb : b ≡ p - 4) where
+    -- its link is among the cached chunks' exactly where it stands in a place of the cache
+    among : listed (b / 4 + 6) (cached_of (numbers r.cached)) ≡ listed (b / 4 + 6) (numbers r.cached)
+    among = listed_cached (b / 4 + 6) (numbers r.cached) (λ q. omega arith)
 
-  -- it does
-  pub live_cached : (b : Bool) → 4 ≤ p → b ≡ listed ((p - 4) / 4 + 6) (numbers r.cached) → b ≡ true → 0 ≡ live base (seen r ws) p
-  unfolding live
-  live_cached b h e t =
-      let c : listed ((p - 4) / 4 + 6) (cached_of (numbers r.cached)) ≡ true = among h ∙ sym e ∙ t in
-      rw (le-leb _ _ h, c) refl
+    -- it does
+    pub live_cached : (t : Bool) → t ≡ listed (b / 4 + 6) (numbers r.cached) → t ≡ true → None ≡ if_used (live base (seen r ws) p)
+    unfolding live
+    live_cached t e f =
+        let c : listed ((p - 4) / 4 + 6) (cached_of (numbers r.cached)) ≡ true = rw eb at (among ∙ sym e ∙ f) in
+        rw (le-leb _ _ h, c) refl
 
-  -- or does not
-  pub live_other : (b : Bool) (v : ℕ) → 4 ≤ p → b ≡ listed ((p - 4) / 4 + 6) (numbers r.cached) → b ≡ false → v ≡ used_walk (at ws) (length ws) 0 (p - 4)
-      → v ≡ live base (seen r ws) p
-  unfolding live
-  live_other b v h e t ev =
-      let c : listed ((p - 4) / 4 + 6) (cached_of (numbers r.cached)) ≡ false = among h ∙ sym e ∙ t in
-      rw (le-leb _ _ h, c) (ev ∙ used_tile (at ws) (length ws) 0 (p - 4))
+    -- or does not
+    pub live_other : (t : Bool) (o : Option ℕ) → t ≡ listed (b / 4 + 6) (numbers r.cached) → t ≡ false → o ≡ if_used (used_walk (at ws) (length ws) 0 b)
+        → o ≡ if_used (live base (seen r ws) p)
+    unfolding live
+    live_other t o e f eo =
+        let c : listed ((p - 4) / 4 + 6) (cached_of (numbers r.cached)) ≡ false = rw eb at (among ∙ sym e ∙ f) in
+        rw (le-leb _ _ h, c) (eo ∙ ap if_used (used_tile (at ws) (length ws) 0 b) ∙ rw eb refl)
+
+-- what is said of a length: none of 0 bytes
+pub used_none : (m : ℕ) → None ≡ if_used m → m ≡ 0
+used_none zero e = refl
+used_none (suc m) e = absurd (cc)
+
+pub used_some : (m n : ℕ) → Some n ≡ if_used m → (n ≡ m) × (n ≡ 0 → ⊥)
+used_some zero n e = absurd (cc)
+used_some (suc m) n e = let q : n ≡ suc m = cc in (q, λ z. omega arith)
 
 -- ---- THE OLDEST CACHED CHUNK, in the first place
 
@@ -449,25 +454,35 @@ module _ (places : ℕ) (r : Record) (ws : List ℕ) (u : ℕ) (l : Link) (k : �
     pub settle_safe : (i n : ℕ) → i ≡ oldest r - 6 → n ≡ length_of (at ws i) → Releasable ws (oldest r) n
     settle_safe = oldest_safe r ws used ok
 
+-- ---- A REFUSAL PASSED ON is that refusal: what was asked for is not there
+
+pub passed_on : (r : Record) (a : Result Record Refusal) (o : Option ℕ) (f e : Refusal) → IsErrAnd a (λ x. x ≡ f)
+    → ◌≡◌ {A = Result ℕ Refusal} (Err f) (ok_or o e) → o ≡ None → out_after r a ≡ record { answer = Err e; rec = r }
+passed_on r (Ok q) o f e h v n = absurd h
+passed_on r (Err x) o f e h v n =
+    let q : ◌≡◌ {A = Result ℕ Refusal} (Err f) (Err e) = v ∙ ap (λ (w : Option ℕ). ok_or w e) n in
+    let same : f ≡ e = cc in
+    ap (λ (y : Refusal). out_after r (Err y)) (h ∙ same)
+
 -- ---- THE TESTS, in their order
 
 module _ (places : ℕ) (r : Record) (ws : List ℕ) where
-  pub hand_zero : (size : ℕ) → size ≡ 0 → outcome ZeroSize (seen r ws) ≡ hand base 65529 places (seen r ws) size
+  pub hand_zero : (size : ℕ) → size ≡ 0 → outcome (Err ZeroSize) (seen r ws) ≡ hand base 65529 places (seen r ws) size
   unfolding hand_out
   hand_zero size h = rw (eq-eqb _ _ h) refl
 
-  pub hand_large : (size : ℕ) → (size ≡ 0 → ⊥) → 4294967284 < size → outcome TooLarge (seen r ws) ≡ hand base 65529 places (seen r ws) size
+  pub hand_large : (size : ℕ) → (size ≡ 0 → ⊥) → 4294967284 < size → outcome (Err TooLarge) (seen r ws) ≡ hand base 65529 places (seen r ws) size
   unfolding hand_out
   hand_large size h k = rw (ne_eqb _ _ h, lt-ltb _ _ k) refl
 
   pub hand_damaged : (size : ℕ) (b : Bool) → (size ≡ 0 → ⊥) → size ≤ 4294967284 → b ≡ sound_at places (seen r ws) → b ≡ false
-      → outcome Damaged (seen r ws) ≡ hand base 65529 places (seen r ws) size
+      → outcome (Err Damaged) (seen r ws) ≡ hand base 65529 places (seen r ws) size
   unfolding hand_out
   hand_damaged size b h k e f = rw (ne_eqb _ _ h, le-ltb _ _ k, sym e ∙ f) refl
 
   -- it can never fit, or it may
   pub hand_never : (size z v : ℕ) (b d : Bool) → (size ≡ 0 → ⊥) → size ≤ 4294967284 → b ≡ sound_at places (seen r ws) → b ≡ true → v ≡ rounded_of size → z ≡ v
-      → d ≡ never (length ws) z → d ≡ true → outcome NeverFits (seen r ws) ≡ hand base 65529 places (seen r ws) size
+      → d ≡ never (length ws) z → d ≡ true → outcome (Err NeverFits) (seen r ws) ≡ hand base 65529 places (seen r ws) size
   unfolding hand_out
   hand_never size z v b d h k e f ev ez ed fd =
       let n : never (length ws) (rounded_of size) ≡ true = ap (never (length ws)) (sym (ez ∙ ev)) ∙ sym ed ∙ fd in
@@ -480,61 +495,33 @@ module _ (places : ℕ) (r : Record) (ws : List ℕ) where
       let n : never (length ws) (rounded_of size) ≡ false = ap (never (length ws)) (sym (ez ∙ ev)) ∙ sym ed ∙ fd in
       rw (ne_eqb _ _ h, le-ltb _ _ k, sym e ∙ f, n, ← ev, ← ez) eo
 
-  pub back_damaged : (p : ℕ) (b : Bool) → b ≡ sound_at places (seen r ws) → b ≡ false → outcome Damaged (seen r ws) ≡ back base 65529 places (seen r ws) p
+  pub back_damaged : (p : ℕ) (b : Bool) → b ≡ sound_at places (seen r ws) → b ≡ false → outcome (Err Damaged) (seen r ws) ≡ back base 65529 places (seen r ws) p
   unfolding take_back
   back_damaged p b e f = rw (sym e ∙ f) refl
 
-  pub back_dead : (p n : ℕ) (b : Bool) → b ≡ sound_at places (seen r ws) → b ≡ true → n ≡ live base (seen r ws) p → n ≡ 0
-      → outcome NotLive (seen r ws) ≡ back base 65529 places (seen r ws) p
+  pub back_dead : (p : ℕ) (b : Bool) → b ≡ sound_at places (seen r ws) → b ≡ true → None ≡ if_used (live base (seen r ws) p)
+      → outcome (Err NotLive) (seen r ws) ≡ back base 65529 places (seen r ws) p
   unfolding take_back
-  back_dead p n b e f en z = rw (sym e ∙ f, eq-eqb _ _ (sym en ∙ z)) refl
+  back_dead p b e f en = rw (sym e ∙ f, eq-eqb _ _ (used_none _ en)) refl
 
-  pub live_name : (p n i l : ℕ) (b : Bool) → b ≡ sound_at places (seen r ws) → b ≡ true → n ≡ live base (seen r ws) p → (n ≡ 0 → ⊥)
+  pub live_name : (p n i l : ℕ) (b : Bool) → b ≡ sound_at places (seen r ws) → b ≡ true → Some n ≡ if_used (live base (seen r ws) p)
       → i ≡ payloads.word p → l ≡ held_name links i → l ≡ name_of (p - 4)
-  live_name p n i l b e f en d ei el =
-      let q = live_fitsᵇ (ours places) (seen r ws) (sym e ∙ f) p (λ k. d (en ∙ k)) in
+  live_name p n i l b e f en ei el =
+      let some = used_some _ n en in
+      let q = live_fitsᵇ (ours places) (seen r ws) (sym e ∙ f) p (λ k. some.1 (some.0 ∙ k)) in
       let a = (figures_fitᵇ (ours places) (seen r ws) (sym e ∙ f)).accepted in
       let u = q.inside in
       omega arith
 
   pub back_done : (q : Record) (ws1 : List ℕ) (p n u l m : ℕ) (b : Bool) → m ≡ places → b ≡ sound_at places (seen r ws) → b ≡ true
-      → n ≡ live base (seen r ws) p → (n ≡ 0 → ⊥) → u ≡ r.in_use - n → l ≡ name_of (p - 4)
+      → Some n ≡ if_used (live base (seen r ws) p) → u ≡ r.in_use - n → l ≡ name_of (p - 4)
       → seen q ws1 ≡ settled base m (seen r ws) u (cached_of (numbers r.cached) ++ l ∷ []) → says 0 0 0 (seen q ws1) ≡ back base 65529 places (seen r ws) p
   unfolding take_back
-  back_done q ws1 p n u l m b em e f en d eu el eq =
-      let d' : live base (seen r ws) p ≡ 0 → ⊥ = λ k. d (en ∙ k) in
-      let h : u ≡ r.in_use - live base (seen r ws) p = eu ∙ ap (λ (k : ℕ). r.in_use - k) en in
+  back_done q ws1 p n u l m b em e f en eu el eq =
+      let some = used_some _ n en in
+      let d' : live base (seen r ws) p ≡ 0 → ⊥ = λ k. some.1 (some.0 ∙ k) in
+      let h : u ≡ r.in_use - live base (seen r ws) p = eu ∙ ap (λ (k : ℕ). r.in_use - k) some.0 in
       rw (sym e ∙ f, ne_eqb _ _ d') (ap (says 0 0 0) (eq ∙ rw (em, el, h) refl))
-
--- a threshold is a multiple of 8, so that quarters compare as the whole does
-threshold_8 : (z : ℕ) → z % 8 ≡ 0 → threshold_of z % 8 ≡ 0
-threshold_8 z h = go (leb 512 z) (leb 256 z) (leb 128 z) (leb 64 z) (leb 32 z)
-  where
-    go : (a b c d e : Bool) → pick a z (pick b 512 (pick c 256 (pick d 128 (pick e 64 32)))) % 8 ≡ 0
-    go true b c d e = h
-    go false true c d e = refl
-    go false false true d e = refl
-    go false false false true e = refl
-    go false false false false true = refl
-    go false false false false false = refl
-
-pub never_by : (n z m t : ℕ) → z % 8 ≡ 0 → m ≡ n - 1 → t ≡ threshold_of z → ltb m (t / 4) ≡ never n z
-never_by n z m t h em et = go (ltb m (t / 4)) refl
-  where
-    eights : t % 8 ≡ 0
-    eights = ap (λ (k : ℕ). k % 8) et ∙ threshold_8 z h
-
-    go : (b : Bool) → ltb m (t / 4) ≡ b → b ≡ never n z
-    go true e =
-        let k = ltb-true m (t / 4) e in
-        let u = eights in
-        let i : 4 * (n - 1) < t = omega arith in
-        sym (ap (ltb (4 * (n - 1))) (sym et) ∙ lt-ltb (4 * (n - 1)) t i)
-    go false e =
-        let k = ltb-false m (t / 4) e in
-        let u = eights in
-        let i : t ≤ 4 * (n - 1) = omega arith in
-        sym (ap (ltb (4 * (n - 1))) (sym et) ∙ le-ltb (4 * (n - 1)) t i)
 
 -- what a kind's audit passed may be served
 pub rounded_served : (k : Kind) (r : Record) (ws : List ℕ) (size v : ℕ) (b : Bool)

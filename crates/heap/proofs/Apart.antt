@@ -5,6 +5,7 @@ use mathlib.Core.Path.{◌≡◌, refl, sym, ap, ◌∙◌}
 use mathlib.Core.List.{List, [], ◌∷◌}
 use Prim.Native.Nat.{ℕ, zero, suc}
 use lib.ListN.{length}
+use Rattle.std.specs.Prelude.{Ok, Err}
 use Rattle.words.specs.declared.names.Link.{Link}
 use Rattle.words.specs.Numbers.{numbers}
 use Rattle.words.proofs.Laws.Numbers.{length_numbers}
@@ -12,11 +13,9 @@ use Rattle.cache.proofs.Laws.{cached_back}
 use Rattle.rules.specs.Rules.Calls.{Outcome}
 use Rattle.rules.specs.Rules.Making.{State}
 use Rattle.heap.specs.declared.record.Record.{Record}
-use Rattle.heap.specs.declared.calls.Answer.{Answer}
-use Rattle.heap.specs.declared.calls.Answer.TheVariants.{Done, ZeroSize, TooLarge, NoFit, NotLive, Damaged, BadLength, NeverFits}
-use Rattle.heap.specs.declared.calls.Out.{Out}
+use Rattle.heap.specs.declared.answer.Refusal.TheVariants.{ZeroSize, TooLarge, NoFit, NotLive, Damaged, BadLength, NeverFits}
 use Rattle.heap.specs.Seen.{seen, FourPlaces}
-use Rattle.heap.specs.Answer.{number, value, compared, outcome}
+use Rattle.heap.specs.Answer.{Answer, Out, number, value, compared, outcome}
 
 -- an array of links is known by its numbers
 abbrev links_of : List ℕ → List Link
@@ -62,24 +61,24 @@ seen_same r q ws vs fr fq e = (same, ap (λ (s : State). s.words) e)
 
 -- an answer is known by its three numbers
 abbrev answer_of_lem : ℕ → ℕ → ℕ → Answer
-answer_of_lem zero v c = Done (record { 0 = v }) c
-answer_of_lem (suc zero) v c = ZeroSize
-answer_of_lem (suc (suc zero)) v c = TooLarge
-answer_of_lem (suc (suc (suc zero))) v c = NoFit c
-answer_of_lem (suc (suc (suc (suc zero)))) v c = NotLive
-answer_of_lem (suc (suc (suc (suc (suc zero))))) v c = Damaged
-answer_of_lem (suc (suc (suc (suc (suc (suc zero)))))) v c = BadLength
-answer_of_lem (suc (suc (suc (suc (suc (suc (suc n))))))) v c = NeverFits
+answer_of_lem zero v c = Ok (record { payload = record { 0 = v }; compared = c })
+answer_of_lem (suc zero) v c = Err ZeroSize
+answer_of_lem (suc (suc zero)) v c = Err TooLarge
+answer_of_lem (suc (suc (suc zero))) v c = Err (NoFit c)
+answer_of_lem (suc (suc (suc (suc zero)))) v c = Err NotLive
+answer_of_lem (suc (suc (suc (suc (suc zero))))) v c = Err Damaged
+answer_of_lem (suc (suc (suc (suc (suc (suc zero)))))) v c = Err BadLength
+answer_of_lem (suc (suc (suc (suc (suc (suc (suc n))))))) v c = Err NeverFits
 
 answer_back : (a : Answer) → answer_of_lem (number a) (value a) (compared a) ≡ a
-answer_back (Done p c) = refl
-answer_back ZeroSize = refl
-answer_back TooLarge = refl
-answer_back (NoFit c) = refl
-answer_back NotLive = refl
-answer_back Damaged = refl
-answer_back BadLength = refl
-answer_back NeverFits = refl
+answer_back (Ok d) = refl
+answer_back (Err ZeroSize) = refl
+answer_back (Err TooLarge) = refl
+answer_back (Err (NoFit c)) = refl
+answer_back (Err NotLive) = refl
+answer_back (Err Damaged) = refl
+answer_back (Err BadLength) = refl
+answer_back (Err NeverFits) = refl
 
 -- answer, record and words are known by the outcome
 pub outcome_same : (o p : Out) (ws vs : List ℕ) → FourPlaces o.rec → FourPlaces p.rec

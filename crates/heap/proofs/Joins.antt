@@ -9,6 +9,7 @@ use native.Mathlib.Omega.{arith}
 use borrow.Author.Tests.{lt-ltb, le-ltb, lt-leb, le-leb}
 use lib.Dec.{ltb}
 use lib.ListN.{length, get_or, set}
+use Rattle.std.specs.Prelude.{Option, IfSome}
 use Rattle.words.specs.declared.names.Link.{Link}
 use Rattle.words.specs.Choice.{pick}
 use Rattle.words.specs.Names.{links, held_name}
@@ -18,17 +19,16 @@ use Rattle.words.specs.Numbers.{numbers}
 use Rattle.words.proofs.Laws.Numbers.{numbers_at, numbers_set}
 use Rattle.words.specs.Sizes.{class_of, start_of}
 use Rattle.rules.specs.Rules.Steps.{portion, unlink, link, set_left, clear_left, mark_free, mark_used, return_excess, take_chunk, left_free, right_free, merge, merged, release_chunk, cleared, emptied}
-use Rattle.rules.specs.Rules.Search.{search_all}
+use Rattle.rules.specs.Rules.Search.{Found, search_all}
 use Rattle.rules.proofs.Demands.Shown.{walked_fit}
 use Rattle.rules.specs.Rules.Making.{State}
 use Rattle.heap.specs.declared.record.Record.{Record}
 use Rattle.heap.specs.Seen.{seen, base, with_prevs, with_nexts, stored}
-use Rattle.heap.specs.Released.{free_listed}
-use Rattle.steps.specs.Chunk.{freed_in, freed, left_free_in, right_free_in, cleared_in, emptied_in, case_of, Releasable}
+use Rattle.heap.specs.Released.{unlink_if, free_listed}
+use Rattle.steps.specs.Chunk.{freed_in, freed, left_free_in, right_free_in, cleared_in, emptied_in, Releasable}
 use Rattle.steps.specs.declared.merge.Merged.{Merged}
-use Rattle.steps.specs.Merged.{merged_in, plain_by}
-use Rattle.steps.specs.declared.search.Found.{Found}
-use Rattle.steps.specs.Found.{told, walk_in}
+use Rattle.steps.specs.Merged.{link_if_free, merged_in, plain_by}
+use Rattle.steps.specs.Found.{told_at, walk_in}
 use Rattle.steps.proofs.Neighbours.{freed_plain, merged_plain}
 
 -- storing a sentinel's link, as numbers
@@ -69,14 +69,15 @@ pub unlink_at : (s : State) (x p q : ℕ) → p ≡ base.prev s x → q ≡ base
 unfolding unlink
 unlink_at s x p q ep eq = rw (ep, eq)
 
-pub unlink_by : (r a b : Record) (ws ws1 ws2 : List ℕ) (p q : Link) (x : ℕ) → 6 ≤ x
+pub unlink_by : (r : Record) (ns ps : List Link) (ws ws1 ws2 : List ℕ) (p q : Link) (x : ℕ) → 6 ≤ x
     → p.0 ≡ link_at narrow prev ws (x - 6) → q.0 ≡ link_at narrow next ws (x - 6)
-    → a ≡ with_nexts r (stored r.next p.0 q) → ws1 ≡ set_chunk_link narrow next ws p.0 q.0
-    → b ≡ with_prevs a (stored a.prev q.0 p) → ws2 ≡ set_chunk_link narrow prev ws1 q.0 p.0
-    → seen b ws2 ≡ unlink base (seen r ws) x
-unlink_by r a b ws ws1 ws2 p q x h ep eq ea e1 eb e2 =
-    let first : seen a ws1 ≡ base.set_next (seen r ws) p.0 q.0 = rw (ea, e1) (next_stored r ws p.0 q) in
-    let second : seen b ws2 ≡ base.set_prev (seen a ws1) q.0 p.0 = rw (eb, e2) (prev_stored a ws1 q.0 p) in
+    → ns ≡ stored r.next p.0 q → ws1 ≡ set_chunk_link narrow next ws p.0 q.0
+    → ps ≡ stored r.prev q.0 p → ws2 ≡ set_chunk_link narrow prev ws1 q.0 p.0
+    → seen (with_prevs (with_nexts r ns) ps) ws2 ≡ unlink base (seen r ws) x
+unlink_by r ns ps ws ws1 ws2 p q x h ep eq en e1 es e2 =
+    let a = with_nexts r ns in
+    let first : seen a ws1 ≡ base.set_next (seen r ws) p.0 q.0 = rw (en, e1) (next_stored r ws p.0 q) in
+    let second : seen (with_prevs a ps) ws2 ≡ base.set_prev (seen a ws1) q.0 p.0 = rw (es, e2) (prev_stored a ws1 q.0 p) in
     second ∙ ap (λ (s : State). base.set_prev s q.0 p.0) first
     ∙ sym (unlink_at (seen r ws) x p.0 q.0 (ep ∙ sym (prev_chunk (seen r ws) x h)) (eq ∙ sym (next_chunk (seen r ws) x h)))
 
@@ -101,52 +102,23 @@ pub link-at : (s : State) (k x n : ℕ) → n ≡ base.next s k → link base s 
 unfolding link
 link-at s k x n e = rw e
 
-pub link_by : (r a b : Record) (ws ws1 ws2 ws3 : List ℕ) (n : Link) (k : ℕ) (l : Link) → k < 6 → 6 ≤ l.0
+pub link_by : (r : Record) (ns ps : List Link) (ws ws1 ws2 ws3 : List ℕ) (n : Link) (k : ℕ) (l : Link) → k < 6 → 6 ≤ l.0
     → n.0 ≡ base.next (seen r ws) k
-    → a ≡ with_nexts r (stored r.next k l) → b ≡ with_prevs a (stored a.prev n.0 l) → ws1 ≡ set_chunk_link narrow prev ws n.0 l.0
+    → ns ≡ stored r.next k l → ps ≡ stored r.prev n.0 l → ws1 ≡ set_chunk_link narrow prev ws n.0 l.0
     → ws2 ≡ set_link_at narrow next ws1 (l.0 - 6) n.0 → ws3 ≡ set_link_at narrow prev ws2 (l.0 - 6) k
-    → seen b ws3 ≡ link base (seen r ws) k l.0
-link_by r a b ws ws1 ws2 ws3 n k l hk hx en ea eb e1 e2 e3 =
+    → seen (with_prevs (with_nexts r ns) ps) ws3 ≡ link base (seen r ws) k l.0
+link_by r ns ps ws ws1 ws2 ws3 n k l hk hx e es ep e1 e2 e3 =
     let x = l.0 in
-    let first : seen a ws ≡ base.set_next (seen r ws) k x = rw ea (set_next_sentinel r ws k l hk) in
-    let second : seen b ws1 ≡ base.set_prev (seen a ws) n.0 x = rw (eb, e1) (prev_stored a ws n.0 l) in
+    let a = with_nexts r ns in
+    let b = with_prevs a ps in
+    let first : seen a ws ≡ base.set_next (seen r ws) k x = rw es (set_next_sentinel r ws k l hk) in
+    let second : seen b ws1 ≡ base.set_prev (seen a ws) n.0 x = rw (ep, e1) (prev_stored a ws n.0 l) in
     let third : seen b ws2 ≡ base.set_next (seen b ws1) x n.0 = rw e2 (sym (set_next_chunk (seen b ws1) x n.0 hx)) in
     let fourth : seen b ws3 ≡ base.set_prev (seen b ws2) x k = rw e3 (sym (set_prev_chunk (seen b ws2) x k hx)) in
     fourth
     ∙ ap (λ (s : State). base.set_prev s x k)
     (third ∙ ap (λ (s : State). base.set_next s x n.0) (second ∙ ap (λ (s : State). base.set_prev s n.0 x) first))
-    ∙ sym (link-at (seen r ws) k x n.0 en)
-
--- MERGING, by the number of the case
-module _ (s : State) (l r : ℕ) where
-  pub merge_neither : (b d : Bool) (k : ℕ) → k ≡ case_of b d → k ≡ 0 → s ≡ merge base b d s l r
-  unfolding merge
-  merge_neither false false k e h = refl
-  merge_neither true false k e h = absurd (omega arith)
-  merge_neither false true k e h = absurd (omega arith)
-  merge_neither true true k e h = absurd (omega arith)
-
-  pub merge_left : (b d : Bool) (k : ℕ) → k ≡ case_of b d → k ≡ 1 → unlink base s l ≡ merge base b d s l r
-  unfolding merge
-  merge_left false false k e h = absurd (omega arith)
-  merge_left true false k e h = refl
-  merge_left false true k e h = absurd (omega arith)
-  merge_left true true k e h = absurd (omega arith)
-
-  pub merge_right : (b d : Bool) (k : ℕ) → k ≡ case_of b d → k ≡ 2 → unlink base s r ≡ merge base b d s l r
-  unfolding merge
-  merge_right false false k e h = absurd (omega arith)
-  merge_right true false k e h = absurd (omega arith)
-  merge_right false true k e h = refl
-  merge_right true true k e h = absurd (omega arith)
-
-  pub merge_both : (t u : State) (b d : Bool) (k : ℕ) → t ≡ unlink base s l → u ≡ unlink base t r → k ≡ case_of b d → (k ≡ 0 → ⊥) → (k ≡ 1 → ⊥) → (k ≡ 2 → ⊥)
-      → u ≡ merge base b d s l r
-  unfolding merge
-  merge_both t u false false k et eu e h0 h1 h2 = absurd (h0 e)
-  merge_both t u true false k et eu e h0 h1 h2 = absurd (h1 e)
-  merge_both t u false true k et eu e h0 h1 h2 = absurd (h2 e)
-  merge_both t u true true k et eu e h0 h1 h2 = eu ∙ ap (λ (v : State). unlink base v r) et
+    ∙ sym (link-at (seen r ws) k x n.0 e)
 
 -- a header that links can name: its place and its name are plain sums
 pub held_name_lem : (w x : ℕ) → w + 6 < 65536 → x ≡ held_name links w → x ≡ w + 6
@@ -194,13 +166,28 @@ free_listed_by r q ws ws1 ws2 ws3 i m j k l hi hm e1 ej e2 ek el eq =
     let tags : ws1 ≡ freed ws i m = e1 ∙ freed_plain ws i m (omega arith) hm in
     eq ∙ rw (ek, pl, e2, tags, pj) refl
 
--- RELEASING: the merged chunk lies in the space that links can name
+-- RELEASING: the merged chunk lies in the space that links can name, and so do its free neighbours
+free_named : (f x : ℕ) → 6 ≤ x → IfSome (link_if_free f x) (λ l. 6 ≤ l.0)
+free_named zero x h = tt
+free_named (suc f) x h = h
+
 pub release_room : (ws : List ℕ) (x n : ℕ) (g : Merged) → Releasable ws x n → g ≡ merged_in ws x n
-    → (g.hdr.0 + 6 < 65536) × (6 ≤ g.link.0) × (6 ≤ g.right.0)
+    → (g.hdr.0 + 6 < 65536) × IfSome g.left (λ l. 6 ≤ l.0) × IfSome g.right (λ l. 6 ≤ l.0)
 release_room ws x n g h e =
     let p = h.chunk in
     let q = h.right in
-    rw (e ∙ merged_plain ws x n h) (omega arith, omega arith, omega arith)
+    rw (e ∙ merged_plain ws x n h) (omega arith, free_named _ _ (omega arith), free_named _ _ (omega arith))
+
+-- both leave their lists where they are free, as the rules' merging has it
+merge_on : (s : State) (f g x y : ℕ) → unlink_if (unlink_if s (link_if_free f x)) (link_if_free g y) ≡ merge base (ltb 0 f) (ltb 0 g) s x y
+unfolding merge unlink_if
+merge_on s zero zero x y = refl
+merge_on s (suc f) zero x y = let a : ltb 0 (suc f) ≡ true = lt-ltb 0 (suc f) (omega arith) in rw a refl
+merge_on s zero (suc g) x y = let b : ltb 0 (suc g) ≡ true = lt-ltb 0 (suc g) (omega arith) in rw b refl
+merge_on s (suc f) (suc g) x y =
+    let a : ltb 0 (suc f) ≡ true = lt-ltb 0 (suc f) (omega arith) in
+    let b : ltb 0 (suc g) ≡ true = lt-ltb 0 (suc g) (omega arith) in
+    rw (a, b) refl
 
 -- what is tagged and listed in the end is the rules' merged chunk, and that is the release of the chunk between its free neighbours
 merged_by_lem : (s u : State) (w f n g : ℕ) → u ≡ merge base (ltb 0 f) (ltb 0 g) s (w - f / 4 + 6) (right_of w n + 6)
@@ -214,27 +201,29 @@ unfolding release_chunk left_free right_free left_free_in right_free_in
 released_between r ws w n = refl
 
 pub release_by : (r a q : Record) (ws ws1 ws2 : List ℕ) (x n : ℕ) (g : Merged) → Releasable ws x n → g ≡ merged_in ws x n
-    → seen a ws1 ≡ merge base g.left_free g.right_free (seen r ws) g.link.0 g.right.0
+    → seen a ws1 ≡ unlink_if (unlink_if (seen r ws) g.left) g.right
     → seen q ws2 ≡ free_listed (seen a ws1) g.hdr.0 g.size → seen q ws2 ≡ release_chunk base (seen r ws) (x - 6) n
 release_by r a q ws ws1 ws2 x n g h eg ea eq =
     let w = x - 6 in
     let f = left_free_in ws w in
     let e = right_free_in ws (right_of w n) in
     let plain : g ≡ plain_by w f n e = eg ∙ merged_plain ws x n h in
-    let off : seen a ws1 ≡ merge base (ltb 0 f) (ltb 0 e) (seen r ws) (w - f / 4 + 6) (right_of w n + 6) = rw plain at ea in
+    let off : seen a ws1 ≡ merge base (ltb 0 f) (ltb 0 e) (seen r ws) (w - f / 4 + 6) (right_of w n + 6) =
+    rw plain at ea ∙ merge_on (seen r ws) f e (w - f / 4 + 6) (right_of w n + 6) in
     let listed : seen q ws2 ≡ free_listed (seen a ws1) (w - f / 4) (f + (n + e)) = rw plain at eq in
     listed ∙ merged_by_lem (seen r ws) (seen a ws1) w f n e off ∙ released_between r ws w n
 
 -- SEARCHING as the code walks, on a record and its words
-pub first_fit_is : (r : Record) (ws : List ℕ) (z : ℕ)
-    → walked_fit base (seen r ws) z ≡ search_all (walk_in (numbers r.next) ws z (length ws / 4)) (6 - start_of z) (start_of z) 0
+pub walked : (r : Record) (ws : List ℕ) (z : ℕ) (f : Found)
+    → f ≡ search_all (walk_in (numbers r.next) ws z (length ws / 4)) (6 - start_of z) (start_of z) 0 → f ≡ walked_fit base (seen r ws) z
 unfolding walked_fit walk_in
-first_fit_is r ws z = refl
+walked r ws z f e = e
 
--- and by the case of what it says
-pub met : (r : Record) (ws : List ℕ) (z : ℕ) (q p : Found) → told q ≡ search_all (walk_in (numbers r.next) ws z (length ws / 4)) (6 - start_of z) (start_of z) 0
-    → q ≡ p → told p ≡ walked_fit base (seen r ws) z
-met r ws z q p e h = sym (ap (λ (f : Found). told f) h) ∙ e ∙ sym (first_fit_is r ws z)
+-- by what it found: none, or a chunk
+pub met : (r : Record) (ws : List ℕ) (z c : ℕ) (a b : Option Link)
+    → told_at a c ≡ search_all (walk_in (numbers r.next) ws z (length ws / 4)) (6 - start_of z) (start_of z) 0
+    → a ≡ b → told_at b c ≡ walked_fit base (seen r ws) z
+met r ws z c a b e h = walked r ws z (told_at b c) (sym (ap (λ (o : Option Link). told_at o c) h) ∙ e)
 
 -- EMPTYING, on record and words
 cleared_seen : (r : Record) (ws : List ℕ) (i k : ℕ) → seen r (cleared_in ws i k) ≡ cleared base (seen r ws) i k

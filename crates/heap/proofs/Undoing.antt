@@ -3,35 +3,36 @@
 --     free_noted_by                    the merged chunk tagged and listed
 --     release_noted_by                 the whole
 use mathlib.Core.Path.{◌≡◌, refl, sym, ap, ◌∙◌}
-use mathlib.Core.Bool.{Bool, true, false}
+use Rattle.std.specs.Prelude.{Option, Some, None}
+use Rattle.words.specs.declared.names.Link.{Link}
 use mathlib.Core.List.{List, [], ◌∷◌, Memᴰ}
 use Prim.Native.Nat.{ℕ, ◌+◌, ◌-◌, ◌^◌, ◌≤◌, ◌<◌}
 use native.Mathlib.Omega.{arith}
 use borrow.Author.Tests.{lt-ltb}
-use lib.ListN.{length, get_or}
+use lib.ListN.{get_or}
 use Rattle.words.specs.Links.{narrow, prev, next, link_at, set_chunk_link}
 use Rattle.words.specs.Sizes.{class_of}
 use Rattle.words.specs.Tags.{right_of, left_freed, changed}
 use Rattle.words.proofs.Laws.Sizes.{class_below}
 use Rattle.rules.specs.Rules.Making.{State}
-use Rattle.rules.specs.Rules.Steps.{unlink, link, mark_free, clear_left, merge, release_chunk}
+use Rattle.rules.specs.Rules.Steps.{unlink, link, mark_free, clear_left, release_chunk}
 use Rattle.steps.specs.declared.merge.Merged.{Merged}
 use Rattle.steps.specs.Chunk.{freed, Releasable}
 use Rattle.steps.specs.Merged.{merged_in}
-use Rattle.steps.specs.Undone.{Room, Noting, tag_places}
+use Rattle.steps.specs.declared.undo.Log.{Log}
+use Rattle.steps.specs.Log.{Logged}
+use Rattle.steps.specs.Undone.{Room, tag_places}
 use Rattle.steps.proofs.Undone.{Changed, room_within, room_next, notes_more, undo_by, undo_none, undo_on, changes_none, changes_word, changes_node, changes_freed}
 use Rattle.heap.specs.declared.record.Record.{Record}
-use Rattle.heap.specs.declared.undo.Noted.{Noted}
 use Rattle.heap.specs.Seen.{seen, base}
 use Rattle.heap.specs.Released.{unlink_if, free_listed}
-use Rattle.heap.specs.Undoable.{Undoable}
+use Rattle.heap.specs.Undoable.{Undoable, Noted}
 use Rattle.heap.proofs.Joins.{prev_chunk, next_chunk, unlink_at, next_sentinel, link-at, release_by}
 
--- A NEIGHBOUR LEAVES ITS LIST, or stays where the test fails
-pub unlink_none : (r : Record) (ws log : List ℕ) (k x : ℕ) (on : Bool) → on ≡ false
-    → Undoable (unlink_if on (seen r ws) x) 2 ws log k ws log (record { rec = r; k = k })
+-- A NEIGHBOUR LEAVES ITS LIST, if there is one
+pub unlink_none : (r : Record) (ws : List ℕ) (log : Log) (o : Option Link) → o ≡ None → Noted (unlink_if (seen r ws) o) 2 ws log r ws log
 unfolding unlink_if
-unlink_none r ws log k x on e = record { does = rw e; undoes = undo_none 2 ws log k }
+unlink_none r ws log o e = record { step = record { does = rw e; undoes = undo_none 2 ws log.notes.now log.len }; same = refl; long = refl }
 
 -- its words: the link words of the nodes before and after
 unlink_changes : (s : State) (x p n : ℕ) → 6 ≤ x → p ≡ link_at narrow prev s.words (x - 6) → n ≡ link_at narrow next s.words (x - 6)
@@ -43,20 +44,24 @@ unlink_changes s x p n h ep en =
     let two = changes_node ps ws narrow prev (set_chunk_link narrow next ws p n) n p (Memᴰ.head refl) one in
     rw (unlink_at s x p n (ep ∙ sym (prev_chunk s x h)) (en ∙ sym (next_chunk s x h))) two
 
-pub unlink_noted_by : (r q : Record) (ws us log log1 log2 : List ℕ) (k a b p n x : ℕ) (on : Bool) → on ≡ true → 6 ≤ x
-    → p ≡ link_at narrow prev ws (x - 6) → n ≡ link_at narrow next ws (x - 6)
-    → Room ws log k 2 → length log1 ≡ length log
-    → Noting ws ((p - 6 + 1) ∷ []) log k log1 a → Noting ws ((n - 6 + 1) ∷ []) log1 a log2 b
-    → seen q us ≡ unlink base (seen r ws) x → Undoable (unlink_if on (seen r ws) x) 2 ws log k us log2 (record { rec = q; k = b })
+pub unlink_noted_by : (r q : Record) (ws us : List ℕ) (log log1 log2 : Log) (p n : ℕ) (l : Link) (o : Option Link) → o ≡ Some l → 6 ≤ l.0
+    → p ≡ link_at narrow prev ws (l.0 - 6) → n ≡ link_at narrow next ws (l.0 - 6)
+    → Room ws log.notes.now log.len 2 → Logged ws ((p - 6 + 1) ∷ []) log log1 → Logged ws ((n - 6 + 1) ∷ []) log1 log2
+    → seen q us ≡ unlink base (seen r ws) l.0 → Noted (unlink_if (seen r ws) o) 2 ws log q us log2
 unfolding unlink_if
-unlink_noted_by r q ws us log log1 log2 k a b p n x on e h ep en room long one two eq =
+unlink_noted_by r q ws us log log1 log2 p n l o e h ep en room one two eq =
+    let x = l.0 in
     let ps = (n - 6 + 1) ∷ (p - 6 + 1) ∷ [] in
-    let np = one (room_within 2 1 ws log k (omega arith) room) in
-    let nn = two (room_next 1 1 ws ((p - 6 + 1) ∷ []) log log1 k a refl room long np) in
-    let both = notes_more ws ((p - 6 + 1) ∷ []) ((n - 6 + 1) ∷ []) log log1 log2 k a b np nn in
+    let np = one.notes (room_within 2 1 ws log.notes.now log.len (omega arith) room) in
+    let nn = two.notes (room_next 1 1 ws ((p - 6 + 1) ∷ []) log.notes.now log1.notes.now log.len log1.len refl room one.long np) in
+    let both = notes_more ws ((p - 6 + 1) ∷ []) ((n - 6 + 1) ∷ []) log.notes.now log1.notes.now log2.notes.now log.len log1.len log2.len np nn in
     let words : us ≡ (unlink base (seen r ws) x).words = ap (λ (s : State). s.words) eq in
     let keeps : Changed ps ws us = rw words (unlink_changes (seen r ws) x p n h ep en) in
-    record { does = rw e eq; undoes = undo_by ws us ps log log2 k b both keeps }
+    record {
+      step = record { does = rw e eq; undoes = undo_by ws us ps log.notes.now log2.notes.now log.len log2.len both keeps };
+      same = two.same ∙ one.same;
+      long = two.long ∙ one.long;
+    }
 
 -- THE MERGED CHUNK TAGGED AND LISTED: linking stores at the link words of the first one and of the chunk itself
 link_changes : (ps ws : List ℕ) (s : State) (k x n : ℕ) → k < 6 → n ≡ base.next s k → Memᴰ (x - 6 + 1) ps → Memᴰ (n - 6 + 1) ps
@@ -90,43 +95,58 @@ listed_changes r ws w m f ef =
     rw (tagged_listed r ws w m)
     (link_changes ps ws (seen r (tagged ws w m)) (class_of m) (w + 6) f below first (Memᴰ.head own) (Memᴰ.tail (Memᴰ.head refl)) tags)
 
-pub free_noted_by : (r q : Record) (ws us log log1 log2 log3 : List ℕ) (k a b d w m c f : ℕ)
+pub free_noted_by : (r q : Record) (ws us : List ℕ) (log log1 log2 log3 : Log) (w m c f : ℕ)
     → c ≡ class_of m → f ≡ (get_or r.next c (record { 0 = 0 })).0
-    → w < 2 ^ 32 → Room ws log k 5 → length log1 ≡ length log → length log2 ≡ length log1
-    → (w < 2 ^ 32 → Noting ws (tag_places w m) log k log1 a) → Noting ws ((f - 6 + 1) ∷ []) log1 a log2 b → Noting ws ((w + 1) ∷ []) log2 b log3 d
-    → seen q us ≡ free_listed (seen r ws) w m → Undoable (free_listed (seen r ws) w m) 5 ws log k us log3 (record { rec = q; k = d })
-free_noted_by r q ws us log log1 log2 log3 k a b d w m c f ec ef low room l1 l2 ntags nfirst nown eq =
+    → w < 2 ^ 32 → Room ws log.notes.now log.len 5
+    → (w < 2 ^ 32 → Logged ws (tag_places w m) log log1) → Logged ws ((f - 6 + 1) ∷ []) log1 log2 → Logged ws ((w + 1) ∷ []) log2 log3
+    → seen q us ≡ free_listed (seen r ws) w m → Noted (free_listed (seen r ws) w m) 5 ws log q us log3
+free_noted_by r q ws us log log1 log2 log3 w m c f ec ef low room three one two eq =
+    let n0 = log.notes.now in
+    let n1 = log1.notes.now in
+    let n2 = log2.notes.now in
+    let n3 = log3.notes.now in
     let ps = (w + 1) ∷ (f - 6 + 1) ∷ tag_places w m in
-    let tags = ntags low (room_within 5 3 ws log k (omega arith) room) in
-    let room2 = room_next 3 2 ws (tag_places w m) log log1 k a refl room l1 tags in
-    let first = nfirst (room_within 2 1 ws log1 a (omega arith) room2) in
-    let own = nown (room_next 1 1 ws ((f - 6 + 1) ∷ []) log1 log2 a b refl room2 l2 first) in
-    let four = notes_more ws (tag_places w m) ((f - 6 + 1) ∷ []) log log1 log2 k a b tags first in
-    let five = notes_more ws ((f - 6 + 1) ∷ tag_places w m) ((w + 1) ∷ []) log log2 log3 k b d four own in
+    let tags = (three low).notes (room_within 5 3 ws n0 log.len (omega arith) room) in
+    let room2 = room_next 3 2 ws (tag_places w m) n0 n1 log.len log1.len refl room (three low).long tags in
+    let first = one.notes (room_within 2 1 ws n1 log1.len (omega arith) room2) in
+    let own = two.notes (room_next 1 1 ws ((f - 6 + 1) ∷ []) n1 n2 log1.len log2.len refl room2 one.long first) in
+    let four = notes_more ws (tag_places w m) ((f - 6 + 1) ∷ []) n0 n1 n2 log.len log1.len log2.len tags first in
+    let five = notes_more ws ((f - 6 + 1) ∷ tag_places w m) ((w + 1) ∷ []) n0 n2 n3 log.len log2.len log3.len four own in
     let words : us ≡ (free_listed (seen r ws) w m).words = ap (λ (s : State). s.words) eq in
     let keeps : Changed ps ws us = rw words (listed_changes r ws w m f (rw ec at ef)) in
-    record { does = eq; undoes = undo_by ws us ps log log3 k d five keeps }
+    record {
+      step = record { does = eq; undoes = undo_by ws us ps n0 n3 log.len log3.len five keeps };
+      same = two.same ∙ one.same ∙ (three low).same;
+      long = two.long ∙ one.long ∙ (three low).long;
+    }
 
 -- THE WHOLE: both neighbours leave, left before right, then the merged chunk is listed
-merge_on : (s : State) (l r : ℕ) (b d : Bool) → merge base b d s l r ≡ unlink_if d (unlink_if b s l) r
-unfolding merge unlink_if
-merge_on s l r false false = refl
-merge_on s l r true false = refl
-merge_on s l r false true = refl
-merge_on s l r true true = refl
-
-pub release_noted_by : (r : Record) (ws ws1 ws2 us log log1 log2 log3 : List ℕ) (k x n : ℕ) (g : Merged) (a b o : Noted)
+pub release_noted_by : (r p q o : Record) (ws ws1 ws2 us : List ℕ) (log log1 log2 log3 : Log) (x n : ℕ) (g : Merged)
     → Releasable ws x n → g ≡ merged_in ws x n
-    → Undoable (unlink_if g.left_free (seen r ws) g.link.0) 2 ws log k ws1 log1 a
-    → Undoable (unlink_if g.right_free (seen a.rec ws1) g.right.0) 2 ws1 log1 a.k ws2 log2 b
-    → Undoable (free_listed (seen b.rec ws2) g.hdr.0 g.size) 5 ws2 log2 b.k us log3 o
-    → Undoable (release_chunk base (seen r ws) (x - 6) n) 9 ws log k us log3 o
-release_noted_by r ws ws1 ws2 us log log1 log2 log3 k x n g a b o h eg ua ub uo =
-    let off : seen b.rec ws2 ≡ merge base g.left_free g.right_free (seen r ws) g.link.0 g.right.0 =
-    ub.does ∙ ap (λ (s : State). unlink_if g.right_free s g.right.0) ua.does
-    ∙ sym (merge_on (seen r ws) g.link.0 g.right.0 g.left_free g.right_free) in
-    let four = undo_on 2 2 ws ws1 ws2 log log1 log2 k a.k b.k ua.undoes ub.undoes in
+    → Undoable (unlink_if (seen r ws) g.left) 2 ws log p ws1 log1
+    → Undoable (unlink_if (seen p ws1) g.right) 2 ws1 log1 q ws2 log2
+    → Undoable (free_listed (seen q ws2) g.hdr.0 g.size) 5 ws2 log2 o us log3
+    → Undoable (release_chunk base (seen r ws) (x - 6) n) 9 ws log o us log3
+release_noted_by r p q o ws ws1 ws2 us log log1 log2 log3 x n g h eg ua ub uo =
+    let n0 = log.notes.now in
+    let n2 = log2.notes.now in
+    let off : seen q ws2 ≡ unlink_if (unlink_if (seen r ws) g.left) g.right = ub.does ∙ ap (λ (s : State). unlink_if s g.right) ua.does in
+    let four = undo_on 2 2 ws ws1 ws2 n0 log1.notes.now n2 log.len log1.len log2.len ua.undoes ub.undoes in
     record {
-      does = release_by r b.rec o.rec ws ws2 us x n g h eg off uo.does;
-      undoes = undo_on 4 5 ws ws2 us log log2 log3 k b.k o.k four uo.undoes;
+      does = release_by r q o ws ws2 us x n g h eg off uo.does;
+      undoes = undo_on 4 5 ws ws2 us n0 n2 log3.notes.now log.len log2.len log3.len four uo.undoes;
+    }
+
+-- and in one log
+pub release_in_log : (r p q o : Record) (ws ws1 ws2 us : List ℕ) (log log1 log2 log3 : Log) (x n : ℕ) (g : Merged)
+    → Releasable ws x n → g ≡ merged_in ws x n
+    → Noted (unlink_if (seen r ws) g.left) 2 ws log p ws1 log1
+    → Noted (unlink_if (seen p ws1) g.right) 2 ws1 log1 q ws2 log2
+    → Noted (free_listed (seen q ws2) g.hdr.0 g.size) 5 ws2 log2 o us log3
+    → Noted (release_chunk base (seen r ws) (x - 6) n) 9 ws log o us log3
+release_in_log r p q o ws ws1 ws2 us log log1 log2 log3 x n g h eg ua ub uo =
+    record {
+      step = release_noted_by r p q o ws ws1 ws2 us log log1 log2 log3 x n g h eg ua.step ub.step uo.step;
+      same = uo.same ∙ ub.same ∙ ua.same;
+      long = uo.long ∙ ub.long ∙ ua.long;
     }

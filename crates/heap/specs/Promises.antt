@@ -13,9 +13,8 @@ use Rattle.rules.specs.Machine.Machine.{Request, ask, give}
 use Rattle.rules.specs.Machine.Machine as rule
 use Rattle.rules.specs.Demands.Events.{Event, asks, writes}
 use Rattle.heap.specs.declared.record.Record.{Record}
-use Rattle.heap.specs.declared.calls.Out.{Out}
 use Rattle.heap.specs.Seen.{seen, base}
-use Rattle.heap.specs.Answer.{said, number, outcome, sound_at}
+use Rattle.heap.specs.Answer.{Out, said, number, outcome, sound_at}
 
 -- making over the words ws gives o and the words vs
 abbrev pub Makes : List ℕ → Out → List ℕ → Type 0

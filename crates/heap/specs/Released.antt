@@ -1,7 +1,7 @@
 -- THE PARTS OF A RELEASE, which the rules compose: a neighbour leaves its list if it is free, and the merged chunk is tagged and listed. And the oldest
 -- cached chunk let go.
-use Rattle.std.specs.Prelude.{Bool, List, [], ◌∷◌, ℕ, ◌+◌}
-use Rattle.words.specs.Choice.{pick}
+use Rattle.std.specs.Prelude.{List, [], ◌∷◌, ℕ, ◌+◌, Option, Some, None}
+use Rattle.words.specs.declared.names.Link.{Link}
 use Rattle.words.specs.Sizes.{class_of}
 use Rattle.words.specs.Tags.{right_of}
 use Rattle.rules.specs.Rules.Steps.{unlink, link, clear_left, mark_free}
@@ -9,9 +9,10 @@ use Rattle.rules.specs.Rules.Calls.{let_go}
 use Rattle.rules.specs.Rules.Making.{State}
 use Rattle.heap.specs.Seen.{base}
 
--- a node leaves its list, where the test holds
-unfoldable pub unlink_if : Bool → State → ℕ → State
-unlink_if on s x = pick on (unlink base s x) s
+-- a node, if there is one, leaves its list
+unfoldable pub unlink_if : State → Option Link → State
+unlink_if s None = s
+unlink_if s (Some l) = unlink base s l.0
 
 -- n bytes at word w become a free chunk: tags, the right neighbour's left bit cleared, and the head of their class list
 unfoldable pub free_listed : State → ℕ → ℕ → State

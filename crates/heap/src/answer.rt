@@ -1,13 +1,91 @@
-// An answer in document 01's three numbers, for callers who see no enum: the door and the trace pass them on. No other code says which number a case has.
+// What the calls answer: done or refused; and an answer in document 01's three numbers, for callers who see no enum. The door and the trace pass them on.
 //
-// The contract cites specs/Answer.antt.
-ghost use Rattle.std.specs.Prelude.{◌≡◌};
-ghost use Rattle.heap.specs.Answer.{numbers_of, told_of};
+// No other code says which number a case has. The contracts cite specs/Answer.antt.
+ghost use Rattle.std.specs.Prelude.{◌≡◌, Ok, Err};
+ghost use Rattle.heap.specs.declared.answer.Refusal.TheVariants.{Damaged};
+ghost use Rattle.heap.specs.Answer.{number_of, count_of, answer_of, without_value, told_of};
 
-use super::calls::Answer;
+use super::record::Record;
+use std::error::Error;
+use std::fmt;
+use steps::Lost;
+use words::ByteOffset;
+
+// A handout: the payload's offset, and how many free chunks were compared.
+#[derive(Clone, Copy)]
+pub struct Done {
+    pub payload: ByteOffset,
+    pub compared: u32,
+}
+
+// Why a call is refused.
+#[derive(Clone, Copy, Debug, PartialEq, Eq)]
+pub enum Refusal {
+    ZeroSize,
+    TooLarge,
+    // no fit now, and how many free chunks were compared
+    NoFit(u32),
+    NotLive,
+    Damaged,
+    BadLength,
+    // no fit ever: no heap of this length can serve it
+    NeverFits,
+}
+
+impl Refusal {
+    // document 01's answer number.
+    fn number(self) -> u32
+        ensures { result ≡ number_of self }
+    {
+        match self {
+            Refusal::ZeroSize => 1,
+            Refusal::TooLarge => 2,
+            Refusal::NoFit(_) => 3,
+            Refusal::NotLive => 4,
+            Refusal::Damaged => 5,
+            Refusal::BadLength => 6,
+            Refusal::NeverFits => 8,
+        }
+    }
+
+    // How many free chunks were compared.
+    fn compared(self) -> u32
+        ensures { result ≡ count_of self }
+    {
+        match self {
+            Refusal::NoFit(c) => c,
+            _ => 0,
+        }
+    }
+}
+
+impl fmt::Display for Refusal {
+    fn fmt<W: fmt::Write>(&self, f: &mut fmt::Formatter<W>) -> fmt::Result {
+        f.write_str(match self {
+            Refusal::ZeroSize => "zero size asked",
+            Refusal::TooLarge => "too large",
+            Refusal::NoFit(_) => "no fit",
+            Refusal::NotLive => "not live",
+            Refusal::Damaged => "damaged",
+            Refusal::BadLength => "bad length",
+            Refusal::NeverFits => "never fits",
+        })
+    }
+}
+
+impl Error for Refusal {}
+
+// Lists that do not end are those of a damaged heap.
+impl From<Lost> for Refusal {
+    ghost from_gives = { λ _ refusal. refusal ≡ Damaged };
+
+    fn from(_lost: Lost) -> Refusal {
+        Refusal::Damaged
+    }
+}
 
 // What an answer tells, in numbers.
-#[derive(Clone, Copy)]
+#[derive(Clone, Copy, Debug, PartialEq, Eq)]
 pub struct Told {
     // document 01's answer number
     pub number: u32,
@@ -17,33 +95,52 @@ pub struct Told {
     pub compared: u32,
 }
 
-impl Told {
-    // These three numbers.
-    fn of(number: u32, value: u32, compared: u32) -> Told
-        ensures { result ≡ numbers_of number value compared }
-    {
+impl From<Done> for Told {
+    ghost from_gives = { λ done told. told ≡ told_of (Ok done) };
+
+    fn from(done: Done) -> Told {
         Told {
-            number,
-            value,
-            compared,
+            number: 0,
+            value: done.payload.0,
+            compared: done.compared,
         }
     }
 }
 
-impl Answer {
-    // The three numbers of an answer.
-    pub fn told(self) -> Told
-        ensures { result ≡ told_of self }
-    {
-        match self {
-            Answer::Done(p, c) => Told::of(0, p.0, c),
-            Answer::ZeroSize => Told::of(1, 0, 0),
-            Answer::TooLarge => Told::of(2, 0, 0),
-            Answer::NoFit(c) => Told::of(3, 0, c),
-            Answer::NotLive => Told::of(4, 0, 0),
-            Answer::Damaged => Told::of(5, 0, 0),
-            Answer::BadLength => Told::of(6, 0, 0),
-            Answer::NeverFits => Told::of(8, 0, 0),
+impl From<Refusal> for Told {
+    ghost from_gives = { λ refusal told. told ≡ told_of (Err refusal) };
+
+    fn from(refusal: Refusal) -> Told {
+        Told {
+            number: refusal.number(),
+            value: 0,
+            compared: refusal.compared(),
+        }
+    }
+}
+
+impl From<Result<(Done, Record), Refusal>> for Told {
+    ghost from_gives = { λ answer told. told ≡ told_of (answer_of answer) };
+
+    fn from(answer: Result<(Done, Record), Refusal>) -> Told {
+        match answer {
+            Ok((done, _)) => Told::from(done),
+            Err(refusal) => Told::from(refusal),
+        }
+    }
+}
+
+impl From<Result<Record, Refusal>> for Told {
+    ghost from_gives = { λ answer told. told ≡ told_of (without_value answer) };
+
+    fn from(answer: Result<Record, Refusal>) -> Told {
+        match answer {
+            Ok(_) => Told {
+                number: 0,
+                value: 0,
+                compared: 0,
+            },
+            Err(refusal) => Told::from(refusal),
         }
     }
 }

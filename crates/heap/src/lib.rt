@@ -26,7 +26,6 @@ mod record;
 mod split;
 mod undo;
 
-pub use answer::Told;
-pub use calls::{Answer, Out};
+pub use answer::{Done, Refusal, Told};
 pub use kind::Kind;
-pub use record::{Mark, Marked, Record};
+pub use record::{Marked, Record};

@@ -1,8 +1,8 @@
 // Releasing a chunk: it merges with its free neighbours, left before right, and goes to the head of its class list.
-ghost use Rattle.std.specs.Prelude.{◌≡◌, ◌+◌, ◌-◌, ◌≤◌, ◌<◌};
-ghost use Rattle.rules.specs.Rules.Steps.{merge, release_chunk};
+ghost use Rattle.std.specs.Prelude.{◌≡◌, IfSome, ◌+◌, ◌-◌, ◌≤◌, ◌<◌};
+ghost use Rattle.rules.specs.Rules.Steps.{release_chunk};
 ghost use Rattle.heap.specs.Seen.{seen, base};
-ghost use Rattle.heap.specs.Released.{free_listed};
+ghost use Rattle.heap.specs.Released.{unlink_if, free_listed};
 ghost use Rattle.steps.specs.Chunk.{Releasable};
 
 use super::record::Record;
@@ -10,25 +10,23 @@ use words::{Link, WordIndex};
 
 impl Record {
     // The free neighbours leave their lists: neither, left, right, both.
+    #[tactic(auto, unfolding(crate::specs::Released::unlink_if))]
     fn merge_neighbor_if_possible(
         self,
         heap: &mut [u32],
-        left_free: bool,
-        right_free: bool,
-        left: Link,
-        right: Link,
+        left: Option<Link>,
+        right: Option<Link>,
     ) -> Record
-        requires { (6 ≤ left.0) × (6 ≤ right.0) }
-        ensures { seen result heap.new ≡ merge base left_free right_free (seen self heap.old) left.0 right.0 }
+        requires { IfSome left (λ l. 6 ≤ l.0) × IfSome right (λ l. 6 ≤ l.0) }
+        ensures { seen result heap.new ≡ unlink_if (unlink_if (seen self heap.old) left) right }
     {
-        let case = steps::merge_case(left_free, right_free);
-        match case {
-            0 => self,
-            1 => self.unlink_chunk(heap, left),
-            2 => self.unlink_chunk(heap, right),
-            _ => {
-                let a = self.unlink_chunk(heap, left);
-                a.unlink_chunk(heap, right)
+        match (left, right) {
+            (None, None) => self,
+            (Some(l), None) => self.unlink_chunk(heap, l),
+            (None, Some(r)) => self.unlink_chunk(heap, r),
+            (Some(l), Some(r)) => {
+                let a = self.unlink_chunk(heap, l);
+                a.unlink_chunk(heap, r)
             }
         }
     }
@@ -41,7 +39,7 @@ impl Record {
         steps::set_free_chunk_hdr_ftr(heap, merged, m);
         words::set_left_free(heap, words::hdr_to_right_hdr(merged, m));
         let class = words::chunk_size_to_list_index(m);
-        self.link_chunk(heap, class, words::hdr_to_link(merged))
+        self.link_chunk(heap, class, Link::from(merged))
     }
 
     // Releases the used chunk of n bytes that l names.
@@ -50,7 +48,7 @@ impl Record {
         ensures { seen result heap.new ≡ release_chunk base (seen self heap.old) (l.0 - 6) n }
     {
         let g = steps::merging(heap, l, n);
-        let a = self.merge_neighbor_if_possible(heap, g.left_free, g.right_free, g.link, g.right);
+        let a = self.merge_neighbor_if_possible(heap, g.left, g.right);
         a.free_listed(heap, g.hdr, g.size)
     }
 }

@@ -4,8 +4,8 @@
 // It is plain data, passed and returned by value. All bytes zero is the empty record: a kernel's static memory at reset.
 ghost use Rattle.std.specs.Prelude.{◌≡◌, ◌+◌, ◌-◌, ◌<◌, ◌^◌, max, ltb};
 ghost use Rattle.words.specs.Choice.{pick};
-ghost use Rattle.heap.specs.Seen.{empty_record, fresh_record, with_cached, counted_in, counted_out, stored, with_prevs, with_nexts};
-ghost use Rattle.heap.specs.Mark.{marked};
+ghost use Rattle.heap.specs.Seen.{empty_record, fresh_record, with_cached, counted_in, counted_out, stored};
+ghost use Rattle.heap.specs.Mark.{mark_of};
 
 use words::Link;
 
@@ -32,17 +32,10 @@ pub struct Record {
     pub fresh: u32,
 }
 
-// What the mark says: nothing new, or high water less the stacks' share.
-#[derive(Clone, Copy)]
-pub enum Mark {
-    Unchanged,
-    At(i64),
-}
-
-// The mark, and the record with its flag off.
+// The mark, none where nothing is new and else high water less the stacks' share; and the record with its flag off.
 #[derive(Clone, Copy)]
 pub struct Marked {
-    pub mark: Mark,
+    pub mark: Option<i64>,
     pub rec: Record,
 }
 
@@ -68,7 +61,7 @@ impl Record {
         Record {
             prev: [Link(0); 6],
             next: [Link(0); 6],
-            cached: [Link(0); 4],
+            cached: [cache::UNUSED; 4],
             words: 0,
             in_use: 0,
             committed: 0,
@@ -82,16 +75,12 @@ impl Record {
     pub(crate) fn of_words(words: u32) -> Record
         ensures { result ≡ fresh_record words }
     {
+        let selves = [Link(0), Link(1), Link(2), Link(3), Link(4), Link(5)];
         Record {
-            prev: [Link(0), Link(1), Link(2), Link(3), Link(4), Link(5)],
-            next: [Link(0), Link(1), Link(2), Link(3), Link(4), Link(5)],
-            cached: [Link(0); 4],
+            prev: selves,
+            next: selves,
             words,
-            in_use: 0,
-            committed: 0,
-            peak: 0,
-            high: 0,
-            fresh: 0,
+            ..Record::empty()
         }
     }
 
@@ -125,47 +114,23 @@ impl Record {
 
     // The mark of allocator/mod.rs: if high water has risen, high water less 108 bytes for each stacklet, and the flag is cleared. It never refuses:
     // any flag but 0 counts as on.
-    pub fn mark(self, stacklets: u32) -> Marked
-        ensures { result ≡ marked self.fresh self stacklets }
+    pub fn mark(mut self, stacklets: u32) -> Marked
+        ensures { result ≡ mark_of self stacklets }
     {
-        let fresh = self.fresh;
-        if fresh == 0 {
+        if self.fresh == 0 {
             return Marked {
-                mark: Mark::Unchanged,
+                mark: None,
                 rec: self,
             };
         }
+        self.fresh = 0;
         let high = self.high;
-        let mut rec = self;
-        rec.fresh = 0;
         let stacks = Self::STACKLET * (stacklets as u64);
         let top = high as u64;
         Marked {
-            mark: Mark::At((top as i64) - (stacks as i64)),
-            rec,
+            mark: Some((top as i64) - (stacks as i64)),
+            rec: self,
         }
-    }
-
-    // The record's half of storing a node's prev link: nothing if the node is a chunk.
-    pub(crate) fn set_sentinel_prev(mut self, l: Link, to: Link) -> Record
-        ensures { result ≡ with_prevs self (stored self.prev l.0 to) }
-    {
-        let k = l.0 as usize;
-        if k < 6 {
-            self.prev[k] = to;
-        }
-        self
-    }
-
-    // The record's half of storing a node's next link.
-    pub(crate) fn set_sentinel_next(mut self, l: Link, to: Link) -> Record
-        ensures { result ≡ with_nexts self (stored self.next l.0 to) }
-    {
-        let k = l.0 as usize;
-        if k < 6 {
-            self.next[k] = to;
-        }
-        self
     }
 
     // The record with `held` bytes in use and the cached chunks c; `committed` stays.
@@ -183,11 +148,10 @@ impl Record {
         ensures { result ≡ counted_in self m end }
     {
         self.in_use += m;
-        let sum = self.committed + m;
-        self.committed = sum;
-        self.peak = steps::larger(self.peak, sum);
+        self.committed += m;
+        self.peak = self.peak.max(self.committed);
         self.fresh = steps::risen(self.high, end, self.fresh);
-        self.high = steps::larger(self.high, end);
+        self.high = self.high.max(end);
         self
     }
 
@@ -196,8 +160,18 @@ impl Record {
         ensures { result ≡ counted_out self held n newer }
     {
         self.in_use = held;
-        self.committed = steps::less(self.committed, n);
+        self.committed = self.committed.saturating_sub(n);
         self.cached = newer;
         self
+    }
+}
+
+// The record's half of storing a node's link, in the array of that side: nothing if the node is a chunk.
+pub(crate) fn set_sentinel(links: &mut [Link; 6], l: Link, to: Link)
+    ensures { links.new ≡ stored links.old l.0 to }
+{
+    let k = l.0 as usize;
+    if k < 6 {
+        links[k] = to;
     }
 }

@@ -19,7 +19,7 @@ impl Record {
         requires { hdr.0 + total / 4 + 6 < 65536 }
         ensures { seen result heap.new ≡ return_excess base (seen self heap.old) hdr.0 total size }
     {
-        let excess = steps::less(total, size);
+        let excess = total.saturating_sub(size);
         if excess < steps::FREE_CHUNK_MIN_SIZE {
             words::set_left_allocated(heap, words::hdr_to_right_hdr(hdr, total));
             return self;
@@ -27,7 +27,7 @@ impl Record {
         let rest = words::hdr_to_right_hdr(hdr, size);
         steps::set_free_chunk_hdr_ftr(heap, rest, excess);
         let class = words::chunk_size_to_list_index(excess);
-        self.link_chunk(heap, class, words::hdr_to_link(rest))
+        self.link_chunk(heap, class, Link::from(rest))
     }
 
     // Takes the listed chunk of n bytes that l names, to serve z bytes.
@@ -35,7 +35,7 @@ impl Record {
         requires { (6 ≤ l.0) × (l.0 + n / 4 < 65536) }
         ensures { seen result heap.new ≡ take_chunk base (seen self heap.old) (l.0 - 6) n z }
     {
-        let hdr = words::link_to_hdr(l);
+        let hdr = WordIndex::from(l);
         let a = self.unlink_chunk(heap, l);
         words::set_hdr(heap, hdr, steps::portion_of(n, z), true, true);
         a.return_excess_to_free_list(heap, hdr, n, z)

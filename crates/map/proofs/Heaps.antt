@@ -25,26 +25,22 @@ use Rattle.rules.specs.Sound.Test.{candidate}
 use Rattle.rules.proofs.Steps.Store.{Edition}
 use Rattle.rules.proofs.Demands.Cache.{listed_true, listed_false}
 use Rattle.rules.proofs.Demands.Decide.{shows_candidate, layout_unique}
+use Rattle.map.specs.declared.kind.ChunkKind.{ChunkKind}
+use Rattle.map.specs.declared.kind.ChunkKind.TheVariants.{Free, Live, Cached}
 use Rattle.map.specs.declared.rows.Row.{Row}
-use Rattle.map.specs.Rows.{free_kind, live_kind, cached_kind}
+use Rattle.map.specs.Rows.{is_free, is_cached}
 use Rattle.map.specs.Layout.{map_of, chunks_of, cached_in, InLine, LegalMap}
 
 -- ---- kinds
 
 -- a kind tells whether the chunk is used
-kind_used : (u l : Bool) → not (eqb (pick u (pick l cached_kind live_kind) free_kind) free_kind) ≡ u
+kind_used : (u l : Bool) → not (is_free (pick u (pick l Cached Live) Free)) ≡ u
 kind_used true true = refl
 kind_used true false = refl
 kind_used false l = refl
 
--- is 10, 11 or 12
-kind_known : (u l : Bool) → (free_kind ≤ pick u (pick l cached_kind live_kind) free_kind) × (pick u (pick l cached_kind live_kind) free_kind ≤ cached_kind)
-kind_known true true = (omega arith, omega arith)
-kind_known true false = (omega arith, omega arith)
-kind_known false l = (omega arith, omega arith)
-
 -- and is cached only where the cache lists it
-kind_cached : (u l : Bool) → bit (eqb (pick u (pick l cached_kind live_kind) free_kind) cached_kind) ≤ bit l
+kind_cached : (u l : Bool) → bit (is_cached (pick u (pick l Cached Live) Free)) ≤ bit l
 kind_cached true true = omega arith
 kind_cached true false = omega arith
 kind_cached false true = omega arith
@@ -65,7 +61,7 @@ chunks_of_map ks b (c ∷ cs) =
 pub in_line_lem : (ks : List ℕ) (b : ℕ) (cs : List Chunk) → InLine b (map_of ks b cs)
 unfolding map_of
 in_line_lem ks b [] = tt
-in_line_lem ks b (c ∷ cs) = let k = kind_known c.used (listed (name_of b) ks) in (k.0, k.1, refl, in_line_lem ks (b + c.len) cs)
+in_line_lem ks b (c ∷ cs) = (refl, in_line_lem ks (b + c.len) cs)
 
 -- how many of ks are x or more
 unfoldable above : ℕ → List ℕ → ℕ
@@ -133,15 +129,15 @@ few_cached ks b cs l = omega (arith, few_above ks b cs l, above_few (name_of b) 
 -- ---- the map tells the cache
 
 -- of two caches that give a used chunk the same kind, both list it or neither
-kind_tells : (k j : Bool) → pick k cached_kind live_kind ≡ pick j cached_kind live_kind → k ≡ j
+kind_tells : (k j : Bool) → pick k Cached Live ≡ pick j Cached Live → k ≡ j
 kind_tells true true e = refl
-kind_tells true false e = absurd (omega arith)
-kind_tells false true e = absurd (omega arith)
+kind_tells true false e = cc
+kind_tells false true e = cc
 kind_tells false false e = refl
 
 -- the first row's kind, and the rows after it
-abbrev first_kind : List Row → ℕ
-first_kind [] = 0
+abbrev first_kind : List Row → ChunkKind
+first_kind [] = Free
 first_kind (r ∷ rs) = r.kind
 
 abbrev others : List Row → List Row
@@ -158,7 +154,7 @@ listed_same ks js b (c ∷ cs) d e h =
   where
     go : (0 < used_at cs (d - c.len) → listed (name_of (b + c.len + (d - c.len))) ks ≡ listed (name_of (b + c.len + (d - c.len))) js)
         → (t : Bool) → eqb d 0 ≡ t → (l : Bool) → leb c.len d ≡ l → (u : Bool) → 0 < pick t (pick u c.len 0) (pick l (used_at cs (d - c.len)) 0)
-        → pick u (pick (listed (name_of b) ks) cached_kind live_kind) free_kind ≡ pick u (pick (listed (name_of b) js) cached_kind live_kind) free_kind
+        → pick u (pick (listed (name_of b) ks) Cached Live) Free ≡ pick u (pick (listed (name_of b) js) Cached Live) Free
         → listed (name_of (b + d)) ks ≡ listed (name_of (b + d)) js
     go ih true q l p true f k =
         let z = eqb-true d 0 q in

@@ -10,12 +10,12 @@ use lib.ListN.{length, length-append}
 use Rattle.rules.specs.Rules.Chunks.{Chunk}
 use Rattle.frame.proofs.Laws.Answer.{length_answer}
 use Rattle.map.specs.declared.rows.Row.{Row}
-use Rattle.map.specs.Rows.{line_of, lines_of, words_of}
+use Rattle.map.specs.Rows.{number_of, line_of, lines_of, words_of}
 use Rattle.map.specs.Layout.{map_of}
 
 -- a line's bytes
 pub length_line : (r : Row) → length (line_of r) ≡ 19
-length_line r = length_answer r.kind r.at r.len
+length_line r = length_answer (number_of r.kind) r.at r.len
 
 -- nineteen bytes for each row
 pub length_lines : (rs : List Row) → length (lines_of rs) ≡ 19 * length rs

@@ -10,7 +10,6 @@ use mathlib.Core.Bool.{Bool, true, false, not}
 use mathlib.Core.List.{List, [], ◌∷◌, ◌++◌}
 use Prim.Native.Nat.{ℕ, ◌+◌, ◌-◌, ◌*◌, ◌/◌, ◌%◌, ◌≤◌, ◌<◌}
 use native.Mathlib.Omega.{arith}
-use lib.Dec.{eqb}
 use lib.ListN.{length}
 use Rattle.rules.specs.Rules.Chunks.{total, Legal, Calm, used_head}
 use Rattle.rules.specs.Sound.Test.{either}
@@ -18,7 +17,7 @@ use Rattle.rules.specs.Sound.Test.{both}
 use Rattle.rules.proofs.Steps.Calls.{total_8}
 use Rattle.map.specs.declared.rows.Row.{Row}
 use Rattle.map.specs.declared.rows.Place.{Place}
-use Rattle.map.specs.Rows.{free_kind}
+use Rattle.map.specs.Rows.{is_free}
 use Rattle.map.specs.Layout.{chunks_of, cached_in, InLine, LegalMap}
 use Rattle.map.specs.Reading.{start, followsᵇ, past}
 use Rattle.map.proofs.RowTests.{fits_true, true_fits}
@@ -76,9 +75,9 @@ module _ (most places : ℕ) where
       let q = goes_from (past p r) rs s.within f.room g.1 in
       record {
         within = omega (arith, q.within);
-        in_line = (s.low, s.high, s.here, q.in_line);
+        in_line = (s.here, q.in_line);
         legal = (s.least, s.eights, q.legal);
-        first = sym (apart_first p.free (eqb r.kind free_kind)) ∙ f.apart;
+        first = sym (apart_first p.free (is_free r.kind)) ∙ f.apart;
         calm = (q.first, q.calm);
         cached = omega (arith, q.cached);
       }
@@ -89,19 +88,17 @@ module _ (most places : ℕ) where
   from_goes p (r ∷ rs) f = (
     true_fits most places p r (record {
       stands = record {
-        low = f.in_line.0;
-        high = f.in_line.1;
-        here = f.in_line.2;
+        here = f.in_line.0;
         least = f.legal.0;
         eights = f.legal.1;
         within = omega (arith, f.within);
       };
-      apart = apart_first p.free (eqb r.kind free_kind) ∙ f.first;
+      apart = apart_first p.free (is_free r.kind) ∙ f.first;
       room = omega (arith, f.cached);
     }),
     from_goes (past p r) rs (record {
       within = omega (arith, f.within);
-      in_line = f.in_line.3;
+      in_line = f.in_line.1;
       legal = f.legal.2;
       first = f.calm.0;
       calm = f.calm.1;

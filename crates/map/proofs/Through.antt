@@ -14,8 +14,7 @@ use lib.Seq.{take_at, drop_at}
 use borrow.Author.Tests.{eq-eqb, ne_eqb}
 use Rattle.map.specs.declared.rows.Row.{Row}
 use Rattle.map.specs.declared.rows.Place.{Place}
-use Rattle.map.specs.declared.rows.Line.{Line}
-use Rattle.map.specs.declared.rows.Line.TheVariants.{Good, Bad}
+use Rattle.std.specs.Prelude.{Option, Some, None}
 use Rattle.map.specs.Rows.{line_of, lines_of}
 use Rattle.map.specs.Reading.{row_in, followsᵇ, past, Read, rows, bad, before, line_read, read_from}
 use Rattle.map.proofs.Lines.{length_line}
@@ -46,27 +45,27 @@ module _ (most places : ℕ) where
   read_end (suc f) p k bs h = rw (eq-eqb (length bs) 0 h)
 
   module _ (f : ℕ) (p : Place) (k : ℕ) (bs : List ℕ) (some : 0 < length bs) where
-    line : (l : Line) → row_in (take 19 bs) ≡ l
+    line : (l : Option Row) → row_in (take 19 bs) ≡ l
         → read_from most places (suc f) p k bs ≡ line_read most places p k (λ q. read_from most places f q (suc k) (drop 19 bs)) l
     unfolding read_from
     line l e = rw (ne_eqb (length bs) 0 (λ z. omega arith), e)
 
     -- a line that is no row is bad
-    pub read_bad : row_in (take 19 bs) ≡ Bad → read_from most places (suc f) p k bs ≡ bad k
+    pub read_bad : row_in (take 19 bs) ≡ None → read_from most places (suc f) p k bs ≡ bad k
     unfolding line_read
-    read_bad e = line Bad e
+    read_bad e = line None e
 
-    module _ (r : Row) (e : row_in (take 19 bs) ≡ Good r) where
+    module _ (r : Row) (e : row_in (take 19 bs) ≡ Some r) where
       -- so is one whose row cannot follow
       pub read_stuck : followsᵇ most places p r ≡ false → read_from most places (suc f) p k bs ≡ bad k
       unfolding line_read
-      read_stuck h = line (Good r) e ∙ rw h
+      read_stuck h = line (Some r) e ∙ rw h
 
       -- one whose row can stands before what is read after it
       pub read_on_lem : followsᵇ most places p r ≡ true
           → read_from most places (suc f) p k bs ≡ before r (read_from most places f (past p r) (suc k) (drop 19 bs))
       unfolding line_read
-      read_on_lem h = line (Good r) e ∙ rw h
+      read_on_lem h = line (Some r) e ∙ rw h
 
   -- ---- WHAT BEGINS THE BYTES
 
@@ -98,10 +97,10 @@ module _ (most places : ℕ) where
 
   module _ (h : 4 * most ≤ 2 ^ 32) where
     -- a row that follows is read from its line
-    pub row_read : (p : Place) (r : Row) (more : List ℕ) → followsᵇ most places p r ≡ true → row_in (take 19 (line_of r ++ more)) ≡ Good r
+    pub row_read : (p : Place) (r : Row) (more : List ℕ) → followsᵇ most places p r ≡ true → row_in (take 19 (line_of r ++ more)) ≡ Some r
     row_read p r more e =
         let f = row_fits most places p r h e in
-        ap row_in (take_at (line_of r) more 19 (length_line r)) ∙ row_of_line r f.0 f.1 f.2
+        ap row_in (take_at (line_of r) more 19 (length_line r)) ∙ row_of_line r f.0 f.1
 
     read_line : (fuel : ℕ) (p : Place) (k : ℕ) (r : Row) (rest : List ℕ) → followsᵇ most places p r ≡ true
         → read_from most places (suc fuel) p k (line_of r ++ rest) ≡ before r (read_from most places fuel (past p r) (suc k) rest)
@@ -130,20 +129,20 @@ module _ (most places : ℕ) where
     next p bs some = go (row_in (take 19 bs)) refl
       where
         -- their first line is no row that follows
-        stops : ((r : Row) → row_in (take 19 bs) ≡ Good r → followsᵇ most places p r ≡ true → ⊥) → Stops p bs
+        stops : ((r : Row) → row_in (take 19 bs) ≡ Some r → followsᵇ most places p r ≡ true → ⊥) → Stops p bs
         stops n r more e f = n r (ap (λ (x : List ℕ). row_in (take 19 x)) e ∙ row_read p r more f) f
 
-        follow : (r : Row) → row_in (take 19 bs) ≡ Good r → (t : Bool) → followsᵇ most places p r ≡ t → Next p bs
+        follow : (r : Row) → row_in (take 19 bs) ≡ Some r → (t : Bool) → followsᵇ most places p r ≡ t → Next p bs
         follow r e true f =
             one r (drop 19 bs) (sym (take-append-drop 19 bs) ∙ ap (λ (x : List ℕ). x ++ drop 19 bs) (line_of_row (take 19 bs) r e).0) f
         follow r e false f = none (stops (λ x d g. other x d g)) (λ fuel k. read_stuck fuel p k bs some r e f)
           where
-            other : (x : Row) → row_in (take 19 bs) ≡ Good x → followsᵇ most places p x ≡ true → ⊥
+            other : (x : Row) → row_in (take 19 bs) ≡ Some x → followsᵇ most places p x ≡ true → ⊥
             other x d g = let same : r ≡ x = cc (e, d) in let z : ◌≡◌ {A = ℕ} 0 1 = cc in omega arith
 
-        go : (l : Line) → row_in (take 19 bs) ≡ l → Next p bs
-        go Bad e = none (stops (λ r d g. let z : ◌≡◌ {A = ℕ} 0 1 = cc in omega arith)) (λ fuel k. read_bad fuel p k bs some e)
-        go (Good r) e = follow r e (followsᵇ most places p r) refl
+        go : (l : Option Row) → row_in (take 19 bs) ≡ l → Next p bs
+        go None e = none (stops (λ r d g. let z : ◌≡◌ {A = ℕ} 0 1 = cc in omega arith)) (λ fuel k. read_bad fuel p k bs some e)
+        go (Some r) e = follow r e (followsᵇ most places p r) refl
 
     -- BYTES WITH WHICH NO ROW GOES ON are bad at once
     pub read_stop : (fuel : ℕ) (p : Place) (k : ℕ) (rest : List ℕ) → 0 < length rest → Stops p rest → read_from most places (suc fuel) p k rest ≡ bad k

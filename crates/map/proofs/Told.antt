@@ -8,60 +8,61 @@ use mathlib.Core.List.{List}
 use Prim.Native.Nat.{ℕ, zero, suc}
 use lib.Dec.{leb}
 use lib.ListN.{length}
+use Rattle.std.specs.Prelude.{Result, Ok, Err}
 use Rattle.words.specs.Choice.{pick}
 use Rattle.rules.specs.Rules.Calls.{Outcome, says}
 use Rattle.heap.specs.declared.record.Record.{Record}
 use Rattle.heap.specs.Seen.{seen}
 use Rattle.heap.specs.Answer.{sound_at}
-use Rattle.map.specs.declared.rows.Answer.{Answer}
-use Rattle.map.specs.declared.rows.Answer.TheVariants.{Done, Damaged, NoRoom, BadLine}
+use Rattle.map.specs.declared.refusal.Refusal.{Refusal}
+use Rattle.map.specs.declared.refusal.Refusal.TheVariants.{Damaged, NoRoom, BadLine}
 use Rattle.map.specs.Rows.{lines_of, words_of}
 use Rattle.map.specs.Answer.{number, value, told}
 use Rattle.map.specs.Reading.{Read, rows, bad, read_all}
 use Rattle.map.specs.Calls.{over, laid, rows_of, written, read_into}
 
 -- the contract of `write_map` (src/write.rt), with this many cache places: the record r, the words ws and the room give the answer a and leave the room b
-abbrev pub WritesMap : ℕ → Record → List ℕ → List ℕ → Answer → List ℕ → Type 0
+abbrev pub WritesMap : ℕ → Record → List ℕ → List ℕ → Result ℕ Refusal → List ℕ → Type 0
 WritesMap places r ws room a b = told a b ≡ written places (seen r ws) room
 
 -- the contract of `read_map` (src/read.rt)
-abbrev pub ReadsMap : ℕ → List ℕ → List ℕ → Answer → List ℕ → Type 0
+abbrev pub ReadsMap : ℕ → List ℕ → List ℕ → Result ℕ Refusal → List ℕ → Type 0
 ReadsMap places bytes room a b = told a b ≡ read_into (read_all 65529 places bytes) room
 
 -- an answer is known by its two numbers
-abbrev answer_of_lem : ℕ → ℕ → Answer
-answer_of_lem zero v = Done v
-answer_of_lem (suc zero) v = Damaged
-answer_of_lem (suc (suc zero)) v = Damaged
-answer_of_lem (suc (suc (suc zero))) v = Damaged
-answer_of_lem (suc (suc (suc (suc zero)))) v = Damaged
-answer_of_lem (suc (suc (suc (suc (suc zero))))) v = Damaged
-answer_of_lem (suc (suc (suc (suc (suc (suc zero)))))) v = NoRoom
-answer_of_lem (suc (suc (suc (suc (suc (suc (suc n))))))) v = BadLine v
+abbrev answer_of_lem : ℕ → ℕ → Result ℕ Refusal
+answer_of_lem zero v = Ok v
+answer_of_lem (suc zero) v = Err Damaged
+answer_of_lem (suc (suc zero)) v = Err Damaged
+answer_of_lem (suc (suc (suc zero))) v = Err Damaged
+answer_of_lem (suc (suc (suc (suc zero)))) v = Err Damaged
+answer_of_lem (suc (suc (suc (suc (suc zero))))) v = Err Damaged
+answer_of_lem (suc (suc (suc (suc (suc (suc zero)))))) v = Err NoRoom
+answer_of_lem (suc (suc (suc (suc (suc (suc (suc n))))))) v = Err (BadLine v)
 
 -- its two numbers give the answer back
-answer_back : (a : Answer) → answer_of_lem (number a) (value a) ≡ a
-answer_back (Done n) = refl
-answer_back Damaged = refl
-answer_back NoRoom = refl
-answer_back (BadLine k) = refl
+answer_back : (a : Result ℕ Refusal) → answer_of_lem (number a) (value a) ≡ a
+answer_back (Ok n) = refl
+answer_back (Err Damaged) = refl
+answer_back (Err NoRoom) = refl
+answer_back (Err (BadLine k)) = refl
 
 -- what is told equally is the same
-told_same : (a b : Answer) (x y : List ℕ) → told a x ≡ told b y → (a ≡ b) × (x ≡ y)
+told_same : (a b : Result ℕ Refusal) (x y : List ℕ) → told a x ≡ told b y → (a ≡ b) × (x ≡ y)
 told_same a b x y e = (
   sym (answer_back a) ∙ ap (λ (o : Outcome (List ℕ)). answer_of_lem o.number o.value) e ∙ answer_back b,
   ap (λ (o : Outcome (List ℕ)). o.after) e,
 )
 
 -- one outcome of writing
-pub write_map_determined : (places : ℕ) (r : Record) (ws room x y : List ℕ) (a b : Answer)
+pub write_map_determined : (places : ℕ) (r : Record) (ws room x y : List ℕ) (a b : Result ℕ Refusal)
     → WritesMap places r ws room a x
     → WritesMap places r ws room b y
     → (a ≡ b) × (x ≡ y)
 write_map_determined places r ws room x y a b e d = told_same a b x y (e ∙ sym d)
 
 -- one outcome of reading
-pub read_map_determined : (places : ℕ) (bytes room x y : List ℕ) (a b : Answer)
+pub read_map_determined : (places : ℕ) (bytes room x y : List ℕ) (a b : Result ℕ Refusal)
     → ReadsMap places bytes room a x
     → ReadsMap places bytes room b y
     → (a ≡ b) × (x ≡ y)
@@ -95,7 +96,7 @@ read_kept (rows rs) room = laid_kept (length rs) (words_of rs) room
 read_kept (bad k) room = λ h. refl
 
 -- a refused writing changes nothing
-pub write_map_refused : (places : ℕ) (r : Record) (ws room x : List ℕ) (a : Answer)
+pub write_map_refused : (places : ℕ) (r : Record) (ws room x : List ℕ) (a : Result ℕ Refusal)
     → WritesMap places r ws room a x
     → number a ≢ 0
     → x ≡ room
@@ -103,7 +104,7 @@ write_map_refused places r ws room x a e h =
     ap (λ (o : Outcome (List ℕ)). o.after) e ∙ written_kept places r ws room (λ z. h (ap (λ (o : Outcome (List ℕ)). o.number) e ∙ z))
 
 -- a refused reading changes nothing
-pub read_map_refused : (places : ℕ) (bytes room x : List ℕ) (a : Answer)
+pub read_map_refused : (places : ℕ) (bytes room x : List ℕ) (a : Result ℕ Refusal)
     → ReadsMap places bytes room a x
     → number a ≢ 0
     → x ≡ room

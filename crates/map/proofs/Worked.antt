@@ -22,6 +22,7 @@ use Rattle.rules.specs.Sound.Test.{legalᵇ, calmᵇ, tagsᵇ, segᵇ, belowᵇ,
 use Rattle.rules.specs.Demands.TwoHeaps.{call}
 use Rattle.rules.specs.Demands.Kind.{one}
 use Rattle.rules.specs.Demands.Table.{made, after}
+use Rattle.map.specs.declared.kind.ChunkKind.TheVariants.{Free, Live}
 use Rattle.map.specs.Rows.{row, lines_of, words_of}
 use Rattle.map.specs.Layout.{map_of}
 use Rattle.map.specs.Reading.{row_in, standsᵇ, followsᵇ, Read, rows, bad, line_read, read_from, read_all}
@@ -60,7 +61,7 @@ unfolding read_all read_from line_read row_in standsᵇ followsᵇ digit_of laid
 worn_read = refl
 
 -- the longest heap and the shortest are read
-pub longest_shortest : map read ("10000000000003FFE0\n" ∷ "110000000000000010\n" ∷ []) ≡ rows (row 16 0 262112 ∷ []) ∷ rows (row 17 0 16 ∷ []) ∷ []
+pub longest_shortest : map read ("10000000000003FFE0\n" ∷ "110000000000000010\n" ∷ []) ≡ rows (row Free 0 262112 ∷ []) ∷ rows (row Live 0 16 ∷ []) ∷ []
 unfolding read_all read_from line_read row_in standsᵇ followsᵇ digit_of
 longest_shortest = refl
 

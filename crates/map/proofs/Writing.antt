@@ -1,7 +1,8 @@
 -- Laws of the writer's walks, in the form that the code's tests have. Assumes nothing.
 --     tile_out, tile_guard, tile_on       one turn of a walk along the headers
 --     Left, chunk_left                    what is left of the bytes and of the chunks after a turn
---     kind_free, kind_cached, kind_live   a chunk's kind
+--     drained     the turns of the iterator over the chunks
+--     kind_cached, kind_live   a chunk's kind
 --     lines_on, lines_out                 a turn of the writer, and its end
 --     sound_short                         a sound heap's chunks end in time
 --     sound_no_room, sound_done           the call's ways out for a sound heap
@@ -14,6 +15,7 @@ use lib.ListN.{length, drop, length-drop}
 use lib.Seq.{length-take-le}
 use borrow.Rule.Slice.PartMut.{mid_of, put_mid}
 use borrow.Author.Tests.{eq-eqb, ne_eqb}
+use Rattle.std.specs.Iterator.{Drains}
 use Rattle.words.specs.Tags.{at, length_of, freeᵇ}
 use Rattle.words.specs.Numbers.{numbers}
 use Rattle.cache.specs.Places.{cached_of}
@@ -30,10 +32,14 @@ use Rattle.heap.specs.Answer.{sound_at}
 use Rattle.heap.proofs.Answers.{ours}
 use Rattle.frame.specs.Answer.{answer_bytes, answered}
 use Rattle.frame.proofs.Laws.Answer.{length_answer, answered_all}
-use Rattle.map.specs.Rows.{lines_of}
+use Rattle.map.specs.declared.chunks.Chunks.{Chunks}
+use Rattle.map.specs.declared.kind.ChunkKind.{ChunkKind}
+use Rattle.map.specs.declared.kind.ChunkKind.TheVariants.{Live, Cached}
+use Rattle.map.specs.Rows.{number_of, lines_of}
 use Rattle.map.specs.Layout.{kind_of, map_of}
 use Rattle.map.specs.Calls.{over, rows_of, written}
 use Rattle.map.specs.Writing.{chunks_in, chunk_at}
+use Rattle.map.specs.Walk.{left_of, walks}
 use Rattle.map.proofs.Lines.{length_lines, length-map}
 use Rattle.map.proofs.Room.{over_from, over_none, over_append}
 use Rattle.map.proofs.Answers.{laid_fits, laid_short, written_sound}
@@ -73,6 +79,13 @@ module _ (ws : List ℕ) (e n : ℕ) (en : n ≡ length_of (at ws (e / 4))) wher
       let t = tile_on fuel p z in
       record { bytes = ap total t ∙ ap (λ (m : ℕ). m + total (tile (at ws) (fuel - 1) (e + n))) (sym en); chunks = ap length t }
 
+-- as many turns as chunks
+pub drained : (xs : List (ℕ × ℕ)) (s : Chunks) → Drains walks s xs → length xs ≡ length (left_of s)
+drained [] s d = sym (ap length (ap left_of d.1.1 ∙ d.1.2))
+drained (x ∷ xs) s d =
+    let turn = d.1.1 in
+    ap suc (drained xs turn.0 (d.0, (d.1.0, turn.2, d.1.2))) ∙ sym (ap length turn.1.2)
+
 -- ---- THE ROOM
 
 -- a line put at place i
@@ -87,40 +100,38 @@ line_put room x i w k e n ew h ex =
 
 -- the chunk at byte e, where xs are the links in the cache's places
 module _ (ws xs : List ℕ) (e : ℕ) where
-  -- a free one
-  pub kind_free : (b : Bool) → b ≡ freeᵇ (at ws (e / 4)) → b ≡ true → 16 ≡ kind_of (cached_of xs) e (chunk_at ws e)
-  kind_free b eb h = let t : freeᵇ (at ws (e / 4)) ≡ true = sym eb ∙ h in rw t
-
   -- whether it is cached, by its link
   known : (t d : Bool) → t ≡ listed (e / 4 + 6) xs → t ≡ d → listed (e / 4 + 6) (cached_of xs) ≡ d
   known t d et h = listed_cached (e / 4 + 6) xs (λ z. omega arith) ∙ sym et ∙ h
 
   -- a cached one
-  pub kind_cached : (b t : Bool) → b ≡ freeᵇ (at ws (e / 4)) → b ≡ false → t ≡ listed (e / 4 + 6) xs → t ≡ true → 18 ≡ kind_of (cached_of xs) e (chunk_at ws e)
+  pub kind_cached : (b t : Bool) → b ≡ freeᵇ (at ws (e / 4)) → b ≡ false → t ≡ listed (e / 4 + 6) xs → t ≡ true
+      → Cached ≡ kind_of (cached_of xs) e (chunk_at ws e)
   kind_cached b t eb h et q = let f : freeᵇ (at ws (e / 4)) ≡ false = sym eb ∙ h in rw (f, known t true et q)
 
   -- any other used one
-  pub kind_live : (b t : Bool) → b ≡ freeᵇ (at ws (e / 4)) → b ≡ false → t ≡ listed (e / 4 + 6) xs → t ≡ false → 17 ≡ kind_of (cached_of xs) e (chunk_at ws e)
+  pub kind_live : (b t : Bool) → b ≡ freeᵇ (at ws (e / 4)) → b ≡ false → t ≡ listed (e / 4 + 6) xs → t ≡ false
+      → Live ≡ kind_of (cached_of xs) e (chunk_at ws e)
   kind_live b t eb h et q = let f : freeᵇ (at ws (e / 4)) ≡ false = sym eb ∙ h in rw (f, known t false et q)
 
 -- ---- A TURN OF THE WRITER
 
 -- from the chunks at byte e: the line of the first, then those of the others behind it
-pub lines_on : (ks ws room x : List ℕ) (fuel e i n k w : ℕ) → n ≡ length_of (at ws (e / 4)) → 0 < fuel → (n ≡ 0 → ⊥)
-    → k ≡ kind_of ks e (chunk_at ws e) → w ≡ 19 → i + 19 * length (tile (at ws) fuel e) ≤ length room → x ≡ answered (mid_of i w room) k e n
-    → over_from i (lines_of (map_of ks e (tile (at ws) fuel e))) room
-    ≡ over_from (i + 19) (lines_of (map_of ks (e + n) (tile (at ws) (fuel - 1) (e + n)))) (put_mid i w room x)
+pub lines_on : (ks ws room x : List ℕ) (cs ds : List Chunk) (e f i n : ℕ) (k : ChunkKind) (w : ℕ) → n ≡ length_of (at ws (e / 4))
+    → cs ≡ chunk_at ws e ∷ ds → f ≡ e + n → k ≡ kind_of ks e (chunk_at ws e) → w ≡ 19 → i + 19 * length cs ≤ length room
+    → x ≡ answered (mid_of i w room) (number_of k) e n
+    → over_from i (lines_of (map_of ks e cs)) room ≡ over_from (i + 19) (lines_of (map_of ks f ds)) (put_mid i w room x)
 unfolding lines_of map_of
-lines_on ks ws room x fuel e i n k w en p z ek ew h ex =
-    let l = (chunk_left ws e n en fuel p z).chunks in
-    let a : List ℕ = answer_bytes k e n in
-    let t : length a ≡ 19 = length_answer k e n in
-    let rest : List ℕ = lines_of (map_of ks (e + n) (tile (at ws) (fuel - 1) (e + n))) in
-    let g : lines_of (map_of ks e (tile (at ws) fuel e)) ≡ a ++ rest = rw (tile_on ws e n en fuel p z, ← ek, ← en) in
+lines_on ks ws room x cs ds e f i n k w en ecs ef ek ew h ex =
+    let l : length cs ≡ suc (length ds) = ap length ecs in
+    let a : List ℕ = answer_bytes (number_of k) e n in
+    let t : length a ≡ 19 = length_answer (number_of k) e n in
+    let rest : List ℕ = lines_of (map_of ks f ds) in
+    let g : lines_of (map_of ks e cs) ≡ a ++ rest = rw (ecs, ← ek, ← en, ef) in
     ap (λ (q : List ℕ). over_from i q room) g
     ∙ over_append i a rest room (omega arith)
     ∙ ap (λ (m : ℕ). over_from (i + m) rest (over_from i a room)) t
-    ∙ ap (λ (q : List ℕ). over_from (i + 19) rest q) (sym (line_put room x i w k e n ew (omega arith) ex))
+    ∙ ap (λ (q : List ℕ). over_from (i + 19) rest q) (sym (line_put room x i w (number_of k) e n ew (omega arith) ex))
 
 -- after the last chunk nothing is left to write
 pub lines_out : (ks room : List ℕ) (e i : ℕ) (cs : List Chunk) → cs ≡ [] → over_from i (lines_of (map_of ks e cs)) room ≡ room

@@ -7,3 +7,4 @@ pub mod Calls
 pub mod Claims
 pub mod Writing
 pub mod Steps
+pub mod Walk

@@ -1,5 +1,5 @@
 // The map of a heap, written: the headers are walked twice, once to count the chunks and once to write their lines.
-// Contracts cite specs/Calls.antt, and inside this file specs/Writing.antt.
+// Contracts cite specs/Calls.antt, and inside this crate specs/Writing.antt.
 ghost use Rattle.std.specs.Prelude.{◌≡◌, length};
 ghost use Rattle.words.specs.Numbers.{numbers};
 ghost use Rattle.cache.specs.Places.{cached_of};
@@ -11,25 +11,27 @@ ghost use Rattle.map.specs.Layout.{kind_of, map_of};
 ghost use Rattle.map.specs.Calls.{over, written};
 ghost use Rattle.map.specs.Writing.{chunks_in, chunk_at, Short, Roomy};
 
-use super::rows::Answer;
+use super::chunks::Chunks;
+use super::kind::ChunkKind;
+use super::refusal::Refusal;
 use heap::{Kind, Record};
-use words::{Link, WordIndex};
+use words::{ByteOffset, Link, WordIndex};
 
 // Writes the map of a heap of this kind at the start of the room: 5 if the heap is damaged, then 6 if the room is too short.
-pub fn write_map(rec: Record, heap: &[u32], room: &mut [u8], kind: Kind) -> Answer
+pub fn write_map(rec: Record, heap: &[u32], room: &mut [u8], kind: Kind) -> Result<usize, Refusal>
     ensures { told result room.new ≡ written (places_of kind) (seen rec heap.now) room.old }
 {
     let sound = rec.audit(heap, kind);
     if !sound {
-        return Answer::Damaged;
+        return Err(Refusal::Damaged);
     }
     let n = count_chunks(heap);
     if room.len() / 19 < n {
-        return Answer::NoRoom;
+        return Err(Refusal::NoRoom);
     }
     let cached = rec.cached;
     write_lines(heap, cached, room);
-    Answer::Done(n)
+    Ok(n)
 }
 
 // How many chunks the headers give, up to the guard.
@@ -37,19 +39,7 @@ fn count_chunks(heap: &[u32]) -> usize
     requires { Short heap.now }
     ensures { result ≡ length (chunks_in heap.now) }
 {
-    let mut fuel = heap.len();
-    let mut e: u32 = 0;
-    let mut n: usize = 0;
-    while 0 < fuel {
-        let len = words::get_hdr_chunk_size(heap, WordIndex((e / 4) as usize));
-        if len == 0 {
-            return n;
-        }
-        e += len;
-        n += 1;
-        fuel -= 1;
-    }
-    n
+    Chunks::of(heap).count()
 }
 
 // Writes a line for each chunk, left to right, over the start of the room.
@@ -57,33 +47,23 @@ fn write_lines(heap: &[u32], cached: [Link; 4], room: &mut [u8])
     requires { Short heap.now × Roomy heap.now room.old }
     ensures { room.new ≡ over (lines_of (map_of (cached_of (numbers cached)) 0 (chunks_in heap.now))) room.old }
 {
-    let mut fuel = heap.len();
-    let mut e: u32 = 0;
-    let mut i: usize = 0;
-    while 0 < fuel {
-        let len = words::get_hdr_chunk_size(heap, WordIndex((e / 4) as usize));
-        if len == 0 {
-            return;
-        }
+    for (k, (e, len)) in Chunks::of(heap).enumerate() {
         let kind = kind_at(heap, cached, e);
-        frame::write_answer(&mut room[i..i + 19], kind, e, len);
-        e += len;
-        i += 19;
-        fuel -= 1;
+        frame::write_answer(&mut room[k * 19..k * 19 + 19], u8::from(kind), e, len);
     }
 }
 
-// The kind of the chunk whose header stands e bytes from the heap's start: 16 free, 17 live, 18 cached.
-fn kind_at(heap: &[u32], cached: [Link; 4], e: u32) -> u8
+// The kind of the chunk whose header stands e bytes from the heap's start.
+fn kind_at(heap: &[u32], cached: [Link; 4], e: u32) -> ChunkKind
     ensures { result ≡ kind_of (cached_of (numbers cached)) e (chunk_at heap.now e) }
 {
-    let free = words::is_this_free(heap, WordIndex((e / 4) as usize));
+    let free = words::is_this_free(heap, WordIndex::from(ByteOffset(e)));
     if free {
-        return 16;
+        return ChunkKind::Free;
     }
     let held = cache::holds(cached, e / 4 + 6);
     if held {
-        return 18;
+        return ChunkKind::Cached;
     }
-    17
+    ChunkKind::Live
 }

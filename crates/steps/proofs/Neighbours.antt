@@ -1,11 +1,10 @@
--- Free neighbours, the tags of a free chunk, and what a request gets of a chunk: how the words' promises join. Assumes nothing.
-use Rattle.std.proofs.Common.{◌≡◌, ℕ, ◌+◌, ◌-◌, ◌/◌, ◌%◌, ◌^◌, ◌<◌, ◌≤◌, Bool, true, false, List, set, sym, refl, ap, ◌∙◌, arith, le-leb}
-use borrow.Author.Tests.{lt-leb}
+-- Free neighbours and the tags of a free chunk: how the words' promises join. Assumes nothing.
+use Rattle.std.proofs.Common.{◌≡◌, ℕ, ◌+◌, ◌-◌, ◌/◌, ◌%◌, ◌^◌, ◌<◌, Bool, true, false, List, Option, set, sym, refl, ap, ◌∙◌, arith}
 use Rattle.words.specs.Names.{links, held_name}
 use Rattle.words.specs.Tags.{at, header_of, length_of, freeᵇ, left_freeᵇ, right_of, footer_of}
-use Rattle.rules.specs.Rules.Steps.{portion}
 use Rattle.steps.specs.Chunk.{freed_in, freed, left_free_in, right_free_in, Releasable}
-use Rattle.steps.specs.Merged.{merged_with, merged_in, plain_by}
+use Rattle.words.specs.declared.names.Link.{Link}
+use Rattle.steps.specs.Merged.{link_if_free, merged_in, plain_by}
 
 -- FREE NEIGHBOURS: the flag says whether there is one
 pub left_none : (ws : List ℕ) (w : ℕ) (b : Bool) → b ≡ left_freeᵇ (at ws w) → b ≡ false → 0 ≡ left_free_in ws w
@@ -38,9 +37,10 @@ unfolding freed_in freed
 freed_plain ws w n hw hn = rw (footer_place w n _ hw hn refl)
 
 -- A CHUNK MERGED with its free neighbours: what the code reads; and plain sums where they are in range
-pub merging_by : (ws : List ℕ) (x n w e f g i t z l y : ℕ) → x < 65536 → n < 2 ^ 32
+pub merging_by : (ws : List ℕ) (x n w e f g i t z : ℕ) (l y : Option Link) → x < 65536 → n < 2 ^ 32
     → w ≡ x - 6 → e ≡ right_of w n % 2 ^ 64 → f ≡ left_free_in ws w → g ≡ right_free_in ws e → i ≡ w - f / 4
-    → t ≡ (n + g) % 2 ^ 32 → z ≡ (f + t) % 2 ^ 32 → l ≡ held_name links i → y ≡ held_name links e → merged_with i z l y f g ≡ merged_in ws x n
+    → t ≡ (n + g) % 2 ^ 32 → z ≡ (f + t) % 2 ^ 32 → l ≡ link_if_free f (held_name links i) → y ≡ link_if_free g (held_name links e)
+    → record { hdr = record { 0 = i }; size = z; left = l; right = y } ≡ merged_in ws x n
 unfolding merged_in
 merging_by ws x n w e f g i t z l y hx hn ew ee ef eg ei et ez el ey =
     let pe : e ≡ right_of w n = omega arith in
@@ -58,10 +58,3 @@ merged_plain ws x n h =
     let name : held_name links (w - f / 4) ≡ w - f / 4 + 6 = omega arith in
     let right : held_name links (right_of w n) ≡ right_of w n + 6 = omega arith in
     rw (size, name, right)
-
--- WHAT A REQUEST GETS
-pub portion_whole : (n z e : ℕ) → e ≡ n - z → e < 12 → n ≡ portion n z
-portion_whole n z e q h = let k : n < z + 12 = omega arith in rw (lt-leb _ _ k)
-
-pub portion_cut : (n z e : ℕ) → e ≡ n - z → 12 ≤ e → z ≡ portion n z
-portion_cut n z e q h = let k : z + 12 ≤ n = omega arith in rw (le-leb _ _ k)

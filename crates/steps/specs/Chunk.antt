@@ -1,5 +1,5 @@
 -- The tags that releasing and taking write, and what emptying a payload does, on the words alone; and when the sums of a release stay in range.
-use Rattle.std.specs.Prelude.{ℕ, zero, suc, ◌+◌, ◌-◌, ◌/◌, ◌%◌, ◌^◌, ◌<◌, ◌≤◌, Bool, true, false, List, slice_set}
+use Rattle.std.specs.Prelude.{ℕ, zero, suc, ◌+◌, ◌-◌, ◌/◌, ◌%◌, ◌^◌, ◌<◌, ◌≤◌, true, false, List, slice_set}
 use Rattle.words.specs.Choice.{pick}
 use Rattle.words.specs.Tags.{at, header_of, length_of, freeᵇ, left_freeᵇ, right_of, footer_of}
 
@@ -24,13 +24,6 @@ cleared_in ws i (suc k) = cleared_in (slice_set ws i 0) (suc i) k
 
 unfoldable pub emptied_in : List ℕ → ℕ → ℕ → List ℕ
 emptied_in ws w n = cleared_in ws (suc w) (n / 4 - 1)
-
--- 0: no neighbour is free, 1: the left one, 2: the right one, 3: both
-abbrev pub case_of : Bool → Bool → ℕ
-case_of false false = 0
-case_of true false = 1
-case_of false true = 2
-case_of true true = 3
 
 -- the chunk of n bytes that l names and its free neighbours lie in the space that links can name
 pub record Releasable (ws : List ℕ) (l n : ℕ) : Type 0 where

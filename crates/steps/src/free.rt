@@ -1,6 +1,6 @@
 // A free chunk's tags, and which neighbours of a chunk are free.
 ghost use Rattle.std.specs.Prelude.{◌≡◌};
-ghost use Rattle.steps.specs.Chunk.{freed_in, left_free_in, right_free_in, case_of};
+ghost use Rattle.steps.specs.Chunk.{freed_in, left_free_in, right_free_in};
 
 use words::WordIndex;
 
@@ -33,15 +33,4 @@ pub fn right_free(heap: &[u32], hdr: WordIndex) -> u32
         return 0;
     }
     words::get_hdr_chunk_size(heap, hdr)
-}
-
-// 0: no neighbour is free, 1: the left one, 2: the right one, 3: both.
-pub fn merge_case(left: bool, right: bool) -> u8
-    ensures { result ≡ case_of left right }
-{
-    if left {
-        if right { 3 } else { 1 }
-    } else {
-        if right { 2 } else { 0 }
-    }
 }

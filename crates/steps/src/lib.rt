@@ -1,13 +1,13 @@
 // Steps that know no record: what the heap's calls do to words and numbers alone. Every function takes any words, as those of
 // `words` do; some ask for a bound against overflow, an index below 2^32 or room in a lent log.
 //
-//     free      the tags of a free chunk, and a chunk's free neighbours: set_free_chunk_hdr_ftr, left_free, right_free, merge_case
+//     free      the tags of a free chunk, and a chunk's free neighbours: set_free_chunk_hdr_ftr, left_free, right_free
 //     merge     what releasing a chunk makes of it and its free neighbours
-//     sums      what a request gets of a chunk, and what the counters become: portion_of, larger, less, risen
+//     sums      what a request gets of a chunk, and what the counters become: portion_of, risen
 //     empty     setting a payload to 0, which heap.rs does not
 //     search    search_first_fit
 //     live      which chunks are used, by a walk of the tiling
-//     undo      noting words before they are overwritten, and putting them back
+//     undo      Log: noting words before they are overwritten, and putting them back
 //
 // A crate of its own below `heap`, so that a change of one of them is proved in seconds.
 #![tactic(auto)]
@@ -21,9 +21,9 @@ mod sums;
 mod undo;
 
 pub use empty::clear_payload;
-pub use free::{left_free, merge_case, right_free, set_free_chunk_hdr_ftr};
+pub use free::{left_free, right_free, set_free_chunk_hdr_ftr};
 pub use live::used_length;
 pub use merge::{Merged, merging};
-pub use search::{Found, search_first_fit};
-pub use sums::{FREE_CHUNK_MIN_SIZE, larger, less, portion_of, risen};
-pub use undo::{note, note_link, note_tags, put_back};
+pub use search::{Found, Lost, search_first_fit};
+pub use sums::{FREE_CHUNK_MIN_SIZE, portion_of, risen};
+pub use undo::Log;

@@ -1,5 +1,5 @@
 // Sums on two or three numbers: what a request gets of a chunk, and what the counters become.
-ghost use Rattle.std.specs.Prelude.{◌≡◌, ◌-◌, max, nat_lt};
+ghost use Rattle.std.specs.Prelude.{◌≡◌, nat_lt};
 ghost use Rattle.words.specs.Choice.{pick};
 ghost use Rattle.rules.specs.Rules.Steps.{portion};
 
@@ -10,22 +10,8 @@ pub const FREE_CHUNK_MIN_SIZE: u32 = 12;
 pub fn portion_of(n: u32, z: u32) -> u32
     ensures { result ≡ portion n z }
 {
-    let excess = less(n, z);
+    let excess = n.saturating_sub(z);
     if excess < FREE_CHUNK_MIN_SIZE { n } else { z }
-}
-
-// The larger of two numbers.
-pub fn larger(a: u32, b: u32) -> u32
-    ensures { result ≡ max a b }
-{
-    if a < b { b } else { a }
-}
-
-// The difference, 0 where it would be negative.
-pub fn less(a: u32, b: u32) -> u32
-    ensures { result ≡ a - b }
-{
-    if b <= a { a - b } else { 0 }
 }
 
 // The flag after a handout that ends at `end`: on if high water rises, else as it was.

@@ -1,14 +1,15 @@
 -- Laws of specs/Stepping.antt and specs/Ran.antt. Assumes nothing.
 use mathlib.Core.Path.{◌≡◌, refl, sym, ap, ◌∙◌}
-use mathlib.Core.Bool.{Bool, true, false, false≢true}
+use mathlib.Core.Logic.{◌≢◌}
+use mathlib.Core.Bool.{Bool, true}
 use mathlib.Core.List.{List, [], ◌++◌}
-use Prim.Native.Nat.{ℕ, ◌+◌, ◌-◌, ◌*◌, ◌≤◌, ◌<◌, min}
+use Prim.Native.Nat.{ℕ, ◌+◌, ◌-◌, ◌*◌, ◌≤◌, ◌<◌}
 use native.Mathlib.Omega.{arith}
 use lib.ListN.{length, take, length-append}
 use lib.Seq.{length-take-le}
-use borrow.Author.Tests.{le-leb, lt-leb, lt-ltb, le-ltb, ltb-true}
-use Rattle.std.specs.Prelude.{Result, Ok, Err, is_err}
-use Rattle.words.specs.Choice.{pick}
+use borrow.Author.Tests.{le-leb, lt-leb}
+use denote.Enum.Bare.{sameb, same_true}
+use Rattle.std.specs.Prelude.{Result}
 use Rattle.heap.specs.declared.record.Record.{Record}
 use Rattle.cache.specs.Places.{cached_of}
 use Rattle.heap.specs.Seen.{seen, empty_record}
@@ -20,16 +21,32 @@ use Rattle.feed.specs.Trace.{trace_of}
 use Rattle.feed.proofs.Laws.{on_line, steps_none, all_taken}
 use Rattle.feed.proofs.Whole.{steps_after, all_answers, whole_from}
 use Rattle.rules.specs.Rules.Making.{empty}
+use Rattle.stream.specs.contracts.step.Course.{the_type}
+use Rattle.stream.specs.declared.step.Course.{Course}
+use Rattle.stream.specs.declared.step.Course.TheVariants.{Going as going, Ended, Failed}
 use Rattle.stream.specs.declared.step.Stream.{Stream}
-use Rattle.stream.specs.Stepping.{ended, counted, fails, piece_of, Takes, Next, Writes}
+use Rattle.stream.specs.Stepping.{ended, counted, piece_of, Takes, Next, Writes}
 use Rattle.stream.specs.Ran.{most, at_first, Going, Answered}
+
+-- ---- the course
+
+-- a test of the course
+pub is_course : (c d : Course) → sameb the_type c d ≡ true → c ≡ d
+is_course c d e = same_true the_type tt c d e
 
 -- ---- one step
 
 -- nothing taken: the run is at an end
-pub takes_none : {places : ℕ} (s : Stream) (b : Bool) (memory out : List ℕ) → Takes places s [] memory (ended s b) memory out
-takes_none s b memory out =
-    record { stands = steps_none _ _; counts = omega arith; goes = refl; fits = omega arith; each = omega arith; same = refl }
+pub takes_none : {places : ℕ} (s : Stream) (c : Course) (memory out : List ℕ) → c ≢ going → Takes places s [] memory (ended s c) memory out
+takes_none s c memory out n =
+    record {
+      stands = steps_none _ _;
+      counts = omega arith;
+      goes = (λ g. absurd (n g), λ h. absurd (omega arith));
+      fits = omega arith;
+      each = omega arith;
+      same = refl;
+    }
 
 -- no piece: the read gave nothing, or more than may still be read
 pub piece_none : {E : Type 0} (left n : ℕ) (got : Result ℕ E) (input : List ℕ) → n ≡ counted got (length input) → n ≡ 0 → piece_of left got input ≡ []
@@ -45,22 +62,9 @@ piece_is : {E : Type 0} (left n : ℕ) (got : Result ℕ E) (input : List ℕ) �
 unfolding piece_of
 piece_is left n got input e h = rw (sym e, le-leb n left h)
 
-pub takes_end : {places : ℕ} (s r : Stream) (b : Bool) (piece memory out : List ℕ) → r ≡ ended s b → piece ≡ [] → Takes places s piece memory r memory out
-takes_end s r b piece memory out e f = rw (e, f) (takes_none s b memory out)
-
--- at an end it is known whether the run failed
-pub fails_none : {E : Type 0} (left n k : ℕ) (got : Result ℕ E) → n ≡ counted got k → n ≡ 0 → is_err got ≡ fails left got k
-fails_none left n k (Ok m) e z = sym (le-ltb left (min m k) (omega (arith, e, z)))
-fails_none left n k (Err x) e z = refl
-
-pub fails_over : {E : Type 0} (left n k : ℕ) (got : Result ℕ E) → n ≡ counted got k → left < n → true ≡ fails left got k
-fails_over left n k (Ok m) e h = sym (lt-ltb left (min m k) (omega (arith, e, h)))
-fails_over left n k (Err x) e h = refl
-
--- a read gives no more than was lent
-pub counted_within : {E : Type 0} (got : Result ℕ E) (k : ℕ) → counted got k ≤ k
-counted_within (Ok m) k = omega arith
-counted_within (Err x) k = omega arith
+pub takes_end : {places : ℕ} (s r : Stream) (c : Course) (piece memory out : List ℕ) → r ≡ ended s c → c ≢ going → piece ≡ []
+    → Takes places s piece memory r memory out
+takes_end s r c piece memory out e n f = rw (e, f) (takes_none s c memory out n)
 
 -- a piece fed whole
 pub takes_fed : {places : ℕ} {E : Type 0} (s : Stream) (f : Fed) (got : Result ℕ E) (n : ℕ) (memory input out memory' out' : List ℕ)
@@ -68,27 +72,18 @@ pub takes_fed : {places : ℕ} {E : Type 0} (s : Stream) (f : Fed) (got : Result
     → stands f memory' out' ≡ steps places (standing s.trace memory []) (take f.taken (take n input))
     → f.filled ≤ length out → (f.taken < length (take n input) → length out < f.filled + 19) → f.filled ≤ 19 * f.taken → f.taken ≤ length (take n input)
     → Takes places s (piece_of s.left got input) memory
-    (record { trace = f.trace; left = s.left - n; filled = f.filled; written = s.written; more = true; failed = false }) memory' out'
+    (record { trace = f.trace; left = s.left - n; filled = f.filled; written = s.written; course = going }) memory' out'
 takes_fed s f got n memory input out memory' out' e k h g room same d fits full each some =
     let long : length (take n input) ≡ n = length-take-le n input k in
     rw (piece_is s.left n got input e g)
     (record {
       stands = all_taken _ _ _ (take n input) (length out) f.taken f.filled (omega (arith, long)) full each d;
       counts = omega (arith, long);
-      goes = sym (lt-ltb 0 (length (take n input)) (omega (arith, long)));
+      goes = (λ _. omega (arith, long), λ _. refl);
       fits = omega (arith, same, fits);
       each = omega (arith, each, some);
       same = refl;
     })
-
--- a write that fails ends the run
-pub ended_writes : (s r : Stream) (b : Bool) (n : ℕ)
-    → r ≡ ended (record { trace = s.trace; left = s.left; filled = s.filled; written = s.written + n; more = s.more; failed = s.failed }) b → Writes s n r
-ended_writes s r b n e = rw e (record { trace = refl; left = refl; written = refl; goes = λ f. absurd (false≢true f) })
-
--- the last answer line is as long as the room that it fills
-pub last_length : (os l : List ℕ) (n : ℕ) → n ≤ 19 → 19 ≤ length os → take n os ≡ last_line l → n ≡ length (last_line l)
-last_length os l n h k e = sym (length-take-le n os (omega arith)) ∙ ap length e
 
 -- ---- a run
 
@@ -118,8 +113,13 @@ going_first a memory s r l n w =
     }
 
 -- the turns that a run has left: a byte each, and the last
+abbrev pub last_turn : Course → ℕ
+last_turn going = 1
+last_turn Ended = 0
+last_turn Failed = 0
+
 abbrev pub turns_left : Stream → ℕ
-turns_left s = s.left + pick s.more 1 0
+turns_left s = s.left + last_turn s.course
 
 -- a piece more, whose answers were handed over, or are not wanted
 pub going_on_lem : {places : ℕ} {a : Bool} {memory ms ns os : List ℕ} {s r : Stream} (w : Stream) (k : ℕ)
@@ -143,30 +143,7 @@ going_on_lem {memory = memory} {ns = ns} {os = os} {r = r} w k g n t l e f h =
       bound = omega (arith, more, g.bound, y.same, y.each, e, h);
     }
 
--- the turns get fewer
-pub turns_less : {places : ℕ} {ms ns os : List ℕ} {s r : Stream} (w : Stream)
-    → Next places s ms r ns os → w.left ≡ r.left → s.more ≡ true → (w.more ≡ true → r.more ≡ true)
-    → turns_left w < turns_left s
-turns_less {s = s} w n l on f = rw on (go w.more refl)
-  where
-    go : (b : Bool) → w.more ≡ b → w.left + pick b 1 0 < s.left + 1
-    go true e = omega (arith, n.takes.counts, l, ltb-true 0 (length n.piece) (sym n.takes.goes ∙ f e))
-    go false e = omega (arith, n.takes.counts, l)
-
--- there is a number for the bytes written
-pub going_fits : {places : ℕ} {a : Bool} {memory ms ns os : List ℕ} {s r : Stream}
-    → Going places a memory s ms → Next places s ms r ns os → r.written + r.filled ≤ 18446744073709551615
-going_fits g n = omega (arith, g.bound, g.ran.counted, n.takes.same, n.takes.each, n.takes.counts)
-
 -- ---- the end of a run
-
--- no answers are wanted
-pub answered_quiet : {places : ℕ} {a : Bool} {memory ms : List ℕ} {s : Stream} → Going places a memory s ms → a ≡ false → Answered places a memory s ms
-answered_quiet g e = record { ran = g.ran; written = λ b _. absurd (false≢true (sym e ∙ b)) }
-
--- something failed
-pub answered_failed : {places : ℕ} {a : Bool} {memory ms : List ℕ} {s : Stream} → Going places a memory s ms → s.failed ≡ true → Answered places a memory s ms
-answered_failed g e = record { ran = g.ran; written = λ _ f. absurd (false≢true (sym f ∙ e)) }
 
 -- BYTES IN, BYTES OUT: what was handed over has the length of the trace
 pub answered_all : {places : ℕ} {a : Bool} {memory ms : List ℕ} {s : Stream} (r : Stream)

@@ -1,9 +1,10 @@
 -- A RUN: what is known of it, although no contract can say what is read and written. As many bytes as were counted as read have had their turns, none
 -- left out and none twice; and as many bytes were handed over as the trace of them has.
-use Rattle.std.specs.Prelude.{◌≡◌, Bool, true, false, List, [], ℕ, ◌+◌, ◌*◌, ◌≤◌, length}
+use Rattle.std.specs.Prelude.{◌≡◌, ◌≢◌, Bool, true, List, [], ℕ, ◌+◌, ◌*◌, ◌≤◌, length}
 use Rattle.rules.specs.Rules.Making.{empty}
 use Rattle.feed.specs.Feeding.{Stand, standing, steps}
 use Rattle.feed.specs.Trace.{trace_of}
+use Rattle.stream.specs.declared.step.Course.TheVariants.{Failed}
 use Rattle.stream.specs.declared.step.Stream.{Stream}
 
 -- how many bytes are read at most
@@ -30,4 +31,4 @@ pub record Going (places : ℕ) (answering : Bool) (memory : List ℕ) (s : Stre
 -- ALL ANSWERED: if nothing failed, as many bytes were handed over as the trace of the input has
 pub record Answered (places : ℕ) (answering : Bool) (memory : List ℕ) (r : Stream) (memory' : List ℕ) : Type 0 where
   pub ran : Ran places memory r memory'
-  pub written : answering ≡ true → r.failed ≡ false → r.written ≡ length (trace_of places memory ran.input)
+  pub written : answering ≡ true → r.course ≢ Failed → r.written ≡ length (trace_of places memory ran.input)

@@ -10,11 +10,11 @@
 //
 // WHAT IS NOT SAID of standard input and output, here or of any program above, since no contract can say it: that a read is made, and which bytes the
 // system gives; that a write is made, and what arrives; that a run goes on until the input ends, for a read or a write that fails ends it. Two lines of
-// code are to be read for that: `reader.read(input)` in `next` and `writer.write_all(&out[0..n])` in `write`.
+// code are to be read for that: `reader.read(input)` in `next` and `writer.write_all(&out[..n])` in `write`.
 #![tactic(auto)]
 
 mod step;
 mod whole;
 
-pub use step::{Stream, next};
+pub use step::{Course, Stream};
 pub use whole::run;

@@ -1,15 +1,13 @@
 -- Laws of `specs/Turned.antt`, one for each way a turn can go, from the callees' contracts as the code has them. Assumes nothing.
+--     lent_min       how many words are lent
 --     first_by       a call on the lent part of the memory, the part put back
---     hand_by, back_by, make_by     a handout and a free on the heap in use, a making
---     make_more      more words than the memory has
---     make_refused   a length that the rules refuse: nothing has changed
---     make_done      a heap made of the first words
---     good_by, bad_by      a frame, and a line that is none
---     number_byte, tell_by     an answer's number fits a byte; its three numbers as a reply
+--     hand_by, back_by       a handout and a free on the heap in use
+--     make_more       more words than the memory has
+--     make_done, make_refused       a heap made of the first words; a length that the rules refuse, where nothing has changed
 use mathlib.Core.Path.{◌≡◌, refl, sym, ap, ◌∙◌}
 use mathlib.Core.Bool.{Bool, true, false}
 use mathlib.Core.List.{List}
-use Prim.Native.Nat.{ℕ, ◌-◌, ◌*◌, ◌≤◌, ◌<◌}
+use Prim.Native.Nat.{ℕ, ◌-◌, ◌*◌, ◌≤◌, ◌<◌, min}
 use native.Mathlib.Omega.{arith}
 use native.Mathlib.Nat.{sub-zero}
 use lib.Dec.{leb}
@@ -25,20 +23,18 @@ use Rattle.rules.specs.Rules.State.{ops}
 use Rattle.rules.specs.Rules.Making.{State, make, acceptedᵇ, fresh, empty}
 use Rattle.rules.specs.Demands.Meaning.{hand, back}
 use Rattle.heap.specs.declared.record.Record.{Record}
-use Rattle.heap.specs.declared.calls.Answer.{Answer}
-use Rattle.heap.specs.declared.calls.Answer.TheVariants.{Done, ZeroSize, TooLarge, NoFit, NotLive, Damaged, BadLength, NeverFits}
-use Rattle.heap.specs.declared.answer.Told.{Told}
-use Rattle.heap.specs.declared.calls.Out.{Out}
-use Rattle.heap.specs.Seen.{seen, base}
-use Rattle.heap.specs.Answer.{outcome, number, told_of}
+use Rattle.heap.specs.declared.answer.Refusal.{Refusal}
+use Rattle.heap.specs.declared.answer.Refusal.TheVariants.{ZeroSize, TooLarge, NoFit, NotLive, Damaged, BadLength, NeverFits}
+use Rattle.heap.specs.Seen.{seen, base, empty_record}
+use Rattle.heap.specs.Answer.{out_made, just_done, number_of, count_of, outcome}
+use Rattle.heap.specs.Answer as heap
 use Rattle.heap.specs.Promises.{Makes, HandsOut, TakesBack}
 use Rattle.frame.specs.declared.line.Request.{Request}
-use Rattle.frame.specs.declared.line.Request.TheVariants.{Make, HandOut, TakeBack}
-use Rattle.frame.specs.declared.line.Line.{Line}
-use Rattle.frame.specs.declared.line.Line.TheVariants.{Good, Bad}
-use Rattle.turn.specs.declared.Reply.{Reply}
-use Rattle.turn.specs.Turned.{with_words, before, on_first, going_on, making, asked, turned, lent_of}
-use Rattle.turn.specs.Told.{outcome_of, reply_of, refusal}
+use Rattle.frame.specs.declared.line.Request.TheVariants.{HandOut, TakeBack}
+use Rattle.std.specs.Prelude.{Option, Some, Ok, Err}
+use Rattle.turn.specs.declared.Refusal.TheVariants.{Heap}
+use Rattle.turn.specs.Turned.{with_words, before, on_first, going_on, making, turned, lent_of}
+use Rattle.turn.specs.Told.{in_turn, reply_of, outcome_of}
 
 -- ---- the lent part
 
@@ -59,13 +55,13 @@ drop_lent n ws = go (leb n (length ws)) refl
         let h : length ws ≤ n = omega (arith, leb-false n (length ws) e) in
         drop-length ws ∙ sym (drop_of_length-le ws {i = n} h)
 
--- no more words are lent than there are
-pub lent_le : (n m most : ℕ) → m ≡ lent_of n most → m ≤ most
-lent_le n m most e = go (leb n most) refl e
+-- the smaller of the two
+pub lent_min : (n most : ℕ) → min most n ≡ lent_of n most
+lent_min n most = go (leb n most) refl
   where
-    go : (t : Bool) → leb n most ≡ t → m ≡ pick t n most → m ≤ most
-    go true f z = omega (arith, leb-true n most f)
-    go false f z = omega arith
+    go : (t : Bool) → leb n most ≡ t → min most n ≡ pick t n most
+    go true f = omega (arith, leb-true n most f)
+    go false f = omega (arith, leb-false n most f)
 
 -- the part that the code lends, and what lies behind it
 mid_lent : (n m : ℕ) (ws : List ℕ) → m ≡ lent_of n (length ws) → mid_of 0 (m - 0) ws ≡ take n ws
@@ -85,40 +81,53 @@ first_by s n m call o e f =
 
 -- ---- handing out and taking back
 
-module _ (places : ℕ) (r : Record) (ws vs : List ℕ) (m : ℕ) (q : Out) (t : Reply) (k : Request)
-    (e : m ≡ lent_of r.words (length ws)) (g : t ≡ reply_of q) where
-  -- a size asked of the heap in use
-  pub hand_by : (size : ℕ) → k ≡ HandOut size → HandsOut places r (mid_of 0 (m - 0) ws) size q vs
-      → outcome_of t (put_mid 0 (m - 0) ws vs) ≡ asked places (seen r ws) k
-  hand_by size h f =
-      ap (λ (x : Reply). outcome_of x (put_mid 0 (m - 0) ws vs)) g
-      ∙ first_by (seen r ws) r.words m (λ s. hand base 65529 places s size) (outcome q.answer (seen q.rec vs)) e f
-      ∙ sym (ap (λ (x : Request). asked places (seen r ws) x) h)
+-- a turn's answer from the heap's says what that says
+same_outcome : (a : heap.Answer) (q : Record) (ws : List ℕ) → outcome_of (reply_of (in_turn a) q) ws ≡ outcome a (seen q ws)
+same_outcome (Ok d) q ws = refl
+same_outcome (Err e) q ws = refl
+
+module _ (places : ℕ) (r q : Record) (ws vs : List ℕ) (m : ℕ) (a : heap.Answer) (l : Option Request) (e : m ≡ lent_of r.words (length ws)) where
+  -- a call on the heap in use
+  call_by : (call : State → Outcome State) → outcome a (seen q vs) ≡ call (seen r (mid_of 0 (m - 0) ws))
+      → outcome_of (reply_of (in_turn a) q) (put_mid 0 (m - 0) ws vs) ≡ on_first r.words call (seen r ws)
+  call_by call f = same_outcome a q (put_mid 0 (m - 0) ws vs) ∙ first_by (seen r ws) r.words m call (outcome a (seen q vs)) e f
+
+  -- a size asked of it
+  pub hand_by : (size : ℕ) → l ≡ Some (HandOut size) → HandsOut places r (mid_of 0 (m - 0) ws) size (record { answer = a; rec = q }) vs
+      → outcome_of (reply_of (in_turn a) q) (put_mid 0 (m - 0) ws vs) ≡ turned places (seen r ws) l
+  hand_by size h f = call_by (λ s. hand base 65529 places s size) f ∙ sym (ap (λ (x : Option Request). turned places (seen r ws) x) h)
 
   -- a payload given back to it
-  pub back_by : (p : ℕ) → k ≡ TakeBack p → TakesBack places r (mid_of 0 (m - 0) ws) p q vs
-      → outcome_of t (put_mid 0 (m - 0) ws vs) ≡ asked places (seen r ws) k
-  back_by p h f =
-      ap (λ (x : Reply). outcome_of x (put_mid 0 (m - 0) ws vs)) g
-      ∙ first_by (seen r ws) r.words m (λ s. back base 65529 places s p) (outcome q.answer (seen q.rec vs)) e f
-      ∙ sym (ap (λ (x : Request). asked places (seen r ws) x) h)
+  pub back_by : (p : ℕ) → l ≡ Some (TakeBack p) → TakesBack places r (mid_of 0 (m - 0) ws) p (record { answer = a; rec = q }) vs
+      → outcome_of (reply_of (in_turn a) q) (put_mid 0 (m - 0) ws vs) ≡ turned places (seen r ws) l
+  back_by p h f = call_by (λ s. back base 65529 places s p) f ∙ sym (ap (λ (x : Option Request). turned places (seen r ws) x) h)
 
 -- ---- making
 
--- a heap of n words asked for
-pub make_by : (places : ℕ) (r : Record) (ws vs : List ℕ) (n : ℕ) (t : Reply) (k : Request) → k ≡ Make n
-    → outcome_of t vs ≡ making (seen r ws) n → outcome_of t vs ≡ asked places (seen r ws) k
-make_by places r ws vs n t k h e = e ∙ sym (ap (λ (x : Request). asked places (seen r ws) x) h)
+-- a heap made, or not
+abbrev made_or : List ℕ → Bool → Outcome State
+made_or ws b = pick b (says 0 0 0 (one_chunk (ops narrow) (fresh ws) (4 * (length ws - 1)))) (says 6 0 0 (empty ws))
 
--- a refused making leaves the words
-refused_words : (ws : List ℕ) → (make narrow 65529 ws).number ≡ 6 → (make narrow 65529 ws).after.words ≡ ws
+-- a refused making says 6, compares nothing and leaves the words
+refused : (ws : List ℕ) → ((make narrow 65529 ws).number ≡ 0 → ⊥)
+    → ((make narrow 65529 ws).number ≡ 6) × ((make narrow 65529 ws).compared ≡ 0) × ((make narrow 65529 ws).after.words ≡ ws)
 unfolding make
-refused_words ws h = go (acceptedᵇ 65529 (length ws)) h
+refused ws = go (acceptedᵇ 65529 (length ws))
   where
-    go : (b : Bool) → (pick b (says 0 0 0 (one_chunk (ops narrow) (fresh ws) (4 * (length ws - 1)))) (says 6 0 0 (empty ws))).number ≡ 6
-        → (pick b (says 0 0 0 (one_chunk (ops narrow) (fresh ws) (4 * (length ws - 1)))) (says 6 0 0 (empty ws))).after.words ≡ ws
-    go true z = absurd (omega (arith, z))
-    go false z = refl
+    go : (b : Bool) → ((made_or ws b).number ≡ 0 → ⊥)
+        → ((made_or ws b).number ≡ 6) × ((made_or ws b).compared ≡ 0) × ((made_or ws b).after.words ≡ ws)
+    go true z = absurd (z refl)
+    go false z = (refl, refl, refl)
+
+-- no refusal has the number 0
+number_some : (e : Refusal) → number_of e ≡ 0 → ⊥
+number_some ZeroSize h = omega (arith, h)
+number_some TooLarge h = omega (arith, h)
+number_some (NoFit c) h = omega (arith, h)
+number_some NotLive h = omega (arith, h)
+number_some Damaged h = omega (arith, h)
+number_some BadLength h = omega (arith, h)
+number_some NeverFits h = omega (arith, h)
 
 -- an outcome whose number is not 6 is the outcome; one whose number is 6 is that nothing has changed
 going_on_lem : (s : State) (o : Outcome State) → (o.number ≡ 6 → ⊥) → o ≡ going_on s o
@@ -133,73 +142,42 @@ unfolding making
 making_fits s n h = rw (le-leb n (length s.words) h)
 
 -- more words than the memory has
-pub make_more : (r : Record) (ws : List ℕ) (n : ℕ) (t : Reply) → length ws < n → t ≡ refusal r 6 → outcome_of t ws ≡ making (seen r ws) n
+pub make_more : (r : Record) (ws : List ℕ) (n : ℕ) → length ws < n → outcome_of (reply_of (Err (Heap BadLength)) r) ws ≡ making (seen r ws) n
 unfolding making
-make_more r ws n t h e = ap (λ (x : Reply). outcome_of x ws) e ∙ (rw (lt-leb n (length ws) h))
+make_more r ws n h = rw (lt-leb n (length ws) h)
 
-module _ (r : Record) (ws vs : List ℕ) (n : ℕ) (q : Out) (t : Reply) (fits : n ≤ length ws) (f : Makes (mid_of 0 (n - 0) ws) q vs) (g : t ≡ reply_of q) where
+module _ (r q : Record) (ws vs : List ℕ) (n : ℕ) (a : heap.Answer) (fits : n ≤ length ws)
+    (f : Makes (mid_of 0 (n - 0) ws) (record { answer = a; rec = q }) vs) where
   -- all n words are lent
   lent_all : n ≡ lent_of n (length ws)
   lent_all = rw (le-leb n (length ws) fits)
 
   -- the making, before its number is looked at
-  made_first : outcome_of t (put_mid 0 (n - 0) ws vs) ≡ on_first n (λ s. make narrow 65529 s.words) (seen r ws)
-  made_first =
-      ap (λ (x : Reply). outcome_of x (put_mid 0 (n - 0) ws vs)) g
-      ∙ first_by (seen r ws) n n (λ s. make narrow 65529 s.words) (outcome q.answer (seen q.rec vs)) lent_all f
+  made_first : outcome a (seen q (put_mid 0 (n - 0) ws vs)) ≡ on_first n (λ s. make narrow 65529 s.words) (seen r ws)
+  made_first = first_by (seen r ws) n n (λ s. make narrow 65529 s.words) (outcome a (seen q vs)) lent_all f
 
   -- the same with its number looked at
-  made_going : going_on (seen r ws) (outcome_of t (put_mid 0 (n - 0) ws vs)) ≡ making (seen r ws) n
+  made_going : going_on (seen r ws) (outcome a (seen q (put_mid 0 (n - 0) ws vs))) ≡ making (seen r ws) n
   made_going = ap (λ (o : Outcome State). going_on (seen r ws) o) made_first ∙ making_fits (seen r ws) n fits
 
-  -- a heap made of the first n words
-  pub make_done : (t.number ≡ 6 → ⊥) → outcome_of t (put_mid 0 (n - 0) ws vs) ≡ making (seen r ws) n
-  make_done h = going_on_lem (seen r ws) (outcome_of t (put_mid 0 (n - 0) ws vs)) h ∙ made_going
+-- a heap made of the first n words
+pub make_done : (r q : Record) (ws vs : List ℕ) (n : ℕ) → n ≤ length ws → Makes (mid_of 0 (n - 0) ws) (out_made (Ok q)) vs
+    → outcome_of (reply_of (in_turn just_done) q) (put_mid 0 (n - 0) ws vs) ≡ making (seen r ws) n
+make_done r q ws vs n fits f =
+    going_on_lem (seen r ws) (outcome just_done (seen q (put_mid 0 (n - 0) ws vs))) (λ z. omega (arith, z)) ∙ made_going r q ws vs n just_done fits f
 
-  -- a refused length leaves every word of the memory
-  words_kept : t.number ≡ 6 → put_mid 0 (n - 0) ws vs ≡ ws
-  words_kept h =
-      let z : number q.answer ≡ 6 = sym (ap (λ (x : Reply). x.number) g) ∙ h in
-      let y : (make narrow 65529 (mid_of 0 (n - 0) ws)).number ≡ 6 = sym (ap (λ (o : Outcome State). o.number) f) ∙ z in
-      let e : vs ≡ mid_of 0 (n - 0) ws = ap (λ (o : Outcome State). o.after.words) f ∙ refused_words (mid_of 0 (n - 0) ws) y in
-      ap (λ (x : List ℕ). put_mid 0 (n - 0) ws x) e ∙ put_same 0 (n - 0) ws
-
-  -- a length that the rules refuse: 6, and nothing has changed
-  pub make_refused : (u : Reply) → t.number ≡ 6 → u ≡ refusal r 6 → outcome_of u (put_mid 0 (n - 0) ws vs) ≡ making (seen r ws) n
-  make_refused u h e =
-      ap (λ (x : Reply). outcome_of x (put_mid 0 (n - 0) ws vs)) e
-      ∙ ap (λ (x : List ℕ). says 6 0 0 (seen r x)) (words_kept h)
-      ∙ going_back (seen r ws) (outcome_of t (put_mid 0 (n - 0) ws vs)) h
-      ∙ made_going
-
--- ---- the line
-
--- a frame is its request
-pub good_by : (places : ℕ) (r : Record) (ws vs : List ℕ) (t : Reply) (l : Line) (k : Request) → l ≡ Good k
-    → outcome_of t vs ≡ asked places (seen r ws) k → outcome_of t vs ≡ turned places (seen r ws) l
-good_by places r ws vs t l k h e = e ∙ sym (ap (λ (x : Line). turned places (seen r ws) x) h)
-
--- any other line is refused
-pub bad_by : (places : ℕ) (r : Record) (ws : List ℕ) (t : Reply) (l : Line) → l ≡ Bad → t ≡ refusal r 7 → outcome_of t ws ≡ turned places (seen r ws) l
-bad_by places r ws t l h e = ap (λ (x : Reply). outcome_of x ws) e ∙ sym (ap (λ (x : Line). turned places (seen r ws) x) h)
-
--- ---- the reply
-
--- an answer's number fits a byte
-pub number_byte : (a : Answer) (t : Told) → t ≡ told_of a → t.number < 256
-number_byte a t e = omega (arith, ap (λ (x : Told). x.number) e, few a)
-  where
-    few : (x : Answer) → number x < 256
-    few (Done p c) = omega arith
-    few ZeroSize = omega arith
-    few TooLarge = omega arith
-    few (NoFit c) = omega arith
-    few NotLive = omega arith
-    few Damaged = omega arith
-    few BadLength = omega arith
-    few NeverFits = omega arith
-
--- a reply of what the answer tells
-pub tell_by : (o : Out) (t : Told) → t ≡ told_of o.answer
-    → record { number = t.number; value = t.value; compared = t.compared; rec = o.rec } ≡ reply_of o
-tell_by o t e = ap (λ (x : Told). record { number = x.number; value = x.value; compared = x.compared; rec = o.rec }) e
+-- a length that the rules refuse: 6, and nothing has changed
+pub make_refused : (r : Record) (ws vs : List ℕ) (n : ℕ) (e : Refusal) → n ≤ length ws → Makes (mid_of 0 (n - 0) ws) (out_made (Err e)) vs
+    → outcome_of (reply_of (Err (Heap e)) r) (put_mid 0 (n - 0) ws vs) ≡ making (seen r ws) n
+make_refused r ws vs n e fits f =
+    let mid : List ℕ = mid_of 0 (n - 0) ws in
+    let no = refused mid (λ z. number_some e (ap (λ (o : Outcome State). o.number) f ∙ z)) in
+    let six : number_of e ≡ 6 = ap (λ (o : Outcome State). o.number) f ∙ no.0 in
+    let none : count_of e ≡ 0 = ap (λ (o : Outcome State). o.compared) f ∙ no.1 in
+    let kept : put_mid 0 (n - 0) ws vs ≡ ws =
+    ap (λ (x : List ℕ). put_mid 0 (n - 0) ws x) (ap (λ (o : Outcome State). o.after.words) f ∙ no.2) ∙ put_same 0 (n - 0) ws in
+    ap (λ (x : List ℕ). says (number_of e) 0 (count_of e) (seen r x)) kept
+    ∙ ap (λ (k : ℕ). says k 0 (count_of e) (seen r ws)) six
+    ∙ ap (λ (k : ℕ). says 6 0 k (seen r ws)) none
+    ∙ going_back (seen r ws) (outcome (Err e) (seen empty_record (put_mid 0 (n - 0) ws vs))) six
+    ∙ made_going r empty_record ws vs n (Err e) fits f

@@ -24,18 +24,17 @@ use Rattle.rules.specs.Demands.Kind.{four}
 use Rattle.heap.specs.Seen.{seen, base, FourPlaces}
 use Rattle.heap.proofs.Apart.{seen_same}
 use Rattle.frame.specs.declared.line.Request.TheVariants.{Make, HandOut, TakeBack}
-use Rattle.frame.specs.declared.line.Line.{Line}
-use Rattle.frame.specs.declared.line.Line.TheVariants.{Good, Bad}
-use Rattle.turn.specs.declared.Reply.{Reply}
-use Rattle.turn.specs.Told.{outcome_of}
+use Rattle.std.specs.Prelude.{Option, Some, None}
+use Rattle.frame.specs.declared.line.Request.{Request}
+use Rattle.turn.specs.Told.{Reply, outcome_of}
 use Rattle.turn.specs.Turned.{with_words, before, on_first, going_on, making, turned}
 
 -- the contract of `turn`, with this many cache places: the record r over the memory ws, and the line l, give the reply t and leave the memory vs
-abbrev pub Turns : ℕ → Record → List ℕ → Line → Reply → List ℕ → Type 0
+abbrev pub Turns : ℕ → Record → List ℕ → Option Request → Reply → List ℕ → Type 0
 Turns places r ws l t vs = outcome_of t vs ≡ turned places (seen r ws) l
 
 -- one outcome
-pub turn_determined : (places : ℕ) (r : Record) (ws vs us : List ℕ) (l : Line) (t u : Reply)
+pub turn_determined : (places : ℕ) (r : Record) (ws vs us : List ℕ) (l : Option Request) (t u : Reply)
     → Turns places r ws l t vs
     → Turns places r ws l u us
     -- the records have four places for cached chunks, as their type says
@@ -81,17 +80,17 @@ making_kept s n = fits (leb n (length s.words))
     fits false = λ h. refl
 
 -- whatever the line
-turned_kept : (places : ℕ) (s : State) (l : Line) → Kept s (turned places s l)
+turned_kept : (places : ℕ) (s : State) (l : Option Request) → Kept s (turned places s l)
 unfolding call
-turned_kept places s Bad = λ h. refl
-turned_kept places s (Good (Make n)) = making_kept s n
-turned_kept places s (Good (HandOut size)) =
+turned_kept places s None = λ h. refl
+turned_kept places s (Some (Make n)) = making_kept s n
+turned_kept places s (Some (HandOut size)) =
     first_kept s.rest.words (λ t. hand base 65529 places t size) s ((narrow_demands places).refused (ask size))
-turned_kept places s (Good (TakeBack p)) =
+turned_kept places s (Some (TakeBack p)) =
     first_kept s.rest.words (λ t. back base 65529 places t p) s ((narrow_demands places).refused (give p))
 
 -- a refusal changes nothing
-pub turn_refused : (places : ℕ) (r : Record) (ws vs : List ℕ) (l : Line) (t : Reply)
+pub turn_refused : (places : ℕ) (r : Record) (ws vs : List ℕ) (l : Option Request) (t : Reply)
     → Turns places r ws l t vs
     → t.number ≢ 0
     → FourPlaces t.rec

@@ -9,8 +9,7 @@ use Rattle.rules.specs.Demands.Meaning.{hand, back}
 use Rattle.heap.specs.Seen.{base}
 use Rattle.frame.specs.declared.line.Request.{Request}
 use Rattle.frame.specs.declared.line.Request.TheVariants.{Make, HandOut, TakeBack}
-use Rattle.frame.specs.declared.line.Line.{Line}
-use Rattle.frame.specs.declared.line.Line.TheVariants.{Good, Bad}
+use Rattle.std.specs.Prelude.{Option, Some, None}
 
 -- the same record over other words
 abbrev pub with_words : State → List ℕ → State
@@ -39,9 +38,9 @@ asked places s (HandOut size) = on_first s.rest.words (λ t. hand base 65529 pla
 asked places s (TakeBack p) = on_first s.rest.words (λ t. back base 65529 places t p) s
 
 -- THE TURN of a line: a line that is no frame gets 7, and nothing changes
-abbrev pub turned : ℕ → State → Line → Outcome State
-turned places s Bad = says 7 0 0 s
-turned places s (Good q) = asked places s q
+abbrev pub turned : ℕ → State → Option Request → Outcome State
+turned places s None = says 7 0 0 s
+turned places s (Some q) = asked places s q
 
 -- how many words the code lends of a memory that has `most`: the first n, or all
 abbrev pub lent_of : ℕ → ℕ → ℕ

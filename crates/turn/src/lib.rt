@@ -10,103 +10,113 @@
 ghost use Rattle.std.specs.Prelude.{◌≡◌};
 ghost use Rattle.heap.specs.Seen.{seen};
 ghost use Rattle.heap.specs.Kind.{places_of};
-ghost use Rattle.turn.specs.Turned.{turned, asked, making, lent_of};
-ghost use Rattle.turn.specs.Told.{outcome_of, reply_of, refusal};
+ghost use Rattle.turn.specs.declared.Refusal.TheVariants.{Heap};
+ghost use Rattle.turn.specs.Turned.{turned, making, lent_of};
+ghost use Rattle.turn.specs.Told.{outcome_of, reply_of, told_of, made};
 
-use frame::{Line, Request};
-use heap::{Kind, Out, Record};
+use frame::Request;
+use heap::{Done, Kind, Record, Told};
+use std::error::Error;
+use std::fmt;
 use words::ByteOffset;
 
-// What a line is answered, and the record after it.
-#[derive(Clone, Copy)]
-pub struct Reply {
-    // document 01's answer number, 0 to 8
-    pub number: u8,
-    // the payload's offset for a handout, 0 otherwise
-    pub value: u32,
-    // how many free chunks were compared
-    pub compared: u32,
-    // the record that the next turn goes on with
-    pub rec: Record,
+// Why a turn is refused.
+#[derive(Clone, Copy, Debug, PartialEq, Eq)]
+pub enum Refusal {
+    // the line is no frame
+    NoFrame,
+    // the heap refuses what the frame asks
+    Heap(heap::Refusal),
 }
 
-// The turn of one line, for a heap of this kind.
-pub fn turn(rec: Record, memory: &mut [u32], line: Line, kind: Kind) -> Reply
-    ensures { outcome_of result memory.new ≡ turned (places_of kind) (seen rec memory.old) line }
-{
-    match line {
-        Line::Bad => refuse(rec, 7),
-        Line::Good(request) => ask(rec, memory, request, kind),
+impl fmt::Display for Refusal {
+    fn fmt<W: fmt::Write>(&self, f: &mut fmt::Formatter<W>) -> fmt::Result {
+        match self {
+            Refusal::NoFrame => f.write_str("no frame"),
+            Refusal::Heap(refusal) => write!(f, "{refusal}"),
+        }
     }
 }
 
-// Puts a request to the heap.
-fn ask(rec: Record, memory: &mut [u32], request: Request, kind: Kind) -> Reply
-    ensures { outcome_of result memory.new ≡ asked (places_of kind) (seen rec memory.old) request }
+impl Error for Refusal {}
+
+impl From<heap::Refusal> for Refusal {
+    ghost from_gives = { λ refusal gives. gives ≡ Heap refusal };
+
+    fn from(refusal: heap::Refusal) -> Refusal {
+        Refusal::Heap(refusal)
+    }
+}
+
+// The turn of one line, for a heap of this kind. A refusal leaves the record and every word of the memory.
+pub fn turn(
+    rec: &mut Record,
+    memory: &mut [u32],
+    line: Option<Request>,
+    kind: Kind,
+) -> Result<Done, Refusal>
+    ensures { outcome_of (reply_of result rec.new) memory.new ≡ turned (places_of kind) (seen rec.old memory.old) line }
 {
+    let request = line.ok_or(Refusal::NoFrame)?;
+    let n = lent_words(rec.words, memory.len());
     match request {
-        Request::Make(n) => make(rec, memory, n),
+        Request::Make(words) => {
+            make(rec, memory, words)?;
+            Ok(nothing_out())
+        }
         Request::HandOut(size) => {
-            let n = lent_words(rec.words, memory.len());
-            let out = rec.hand_out(&mut memory[0..n], size, kind);
-            tell(out)
+            let (done, after) = rec.hand_out(&mut memory[0..n], size, kind)?;
+            *rec = after;
+            Ok(done)
         }
         Request::TakeBack(p) => {
-            let n = lent_words(rec.words, memory.len());
-            let out = rec.take_back(&mut memory[0..n], ByteOffset(p), kind);
-            tell(out)
+            *rec = rec.take_back(&mut memory[0..n], ByteOffset(p), kind)?;
+            Ok(nothing_out())
         }
     }
 }
 
 // Makes a heap of the first `words` words of the memory. A length that is refused leaves the heap in use as it is.
-fn make(rec: Record, memory: &mut [u32], words: u32) -> Reply
-    ensures { outcome_of result memory.new ≡ making (seen rec memory.old) words }
+fn make(rec: &mut Record, memory: &mut [u32], words: u32) -> Result<(), heap::Refusal>
+    ensures { outcome_of (reply_of (made result) rec.new) memory.new ≡ making (seen rec.old memory.old) words }
 {
     let n = words as usize;
     if memory.len() < n {
-        return refuse(rec, 6);
+        return Err(heap::Refusal::BadLength);
     }
-    let out = Record::make(&mut memory[0..n]);
-    let t = tell(out);
-    if t.number == 6 {
-        return refuse(rec, 6);
-    }
-    t
+    *rec = Record::make(&mut memory[0..n])?;
+    Ok(())
 }
 
 // How many words are lent: as many as the record says, and no more than there are.
+#[tactic(auto, using(crate::proofs::Laws::lent_min))]
 fn lent_words(words: u32, most: usize) -> usize
     ensures { result ≡ lent_of words most }
 {
-    let n = words as usize;
-    if n <= most { n } else { most }
+    most.min(words as usize)
 }
 
-// What a call answers, by its number.
-fn tell(out: Out) -> Reply
-    ensures { result ≡ reply_of out }
+// Done, where nothing is handed out.
+fn nothing_out() -> Done
+    ensures { result ≡ record { payload = record { 0 = 0 }; compared = 0 } }
 {
-    let answer = out.answer;
-    let rec = out.rec;
-    let told = answer.told();
-    let number = told.number as u8;
-    Reply {
-        number,
-        value: told.value,
-        compared: told.compared,
-        rec,
+    Done {
+        payload: ByteOffset(0),
+        compared: 0,
     }
 }
 
-// A refusal by number: nothing returned, nothing compared, the record as it was.
-fn refuse(rec: Record, number: u8) -> Reply
-    ensures { result ≡ refusal rec number }
+// What a turn's answer tells, in document 01's numbers: 7 where the line is no frame, else the heap's.
+pub fn told(answer: Result<Done, Refusal>) -> Told
+    ensures { result ≡ told_of answer }
 {
-    Reply {
-        number,
-        value: 0,
-        compared: 0,
-        rec,
+    match answer {
+        Ok(done) => Told::from(done),
+        Err(Refusal::NoFrame) => Told {
+            number: 7,
+            value: 0,
+            compared: 0,
+        },
+        Err(Refusal::Heap(refusal)) => Told::from(refusal),
     }
 }

@@ -14,15 +14,9 @@ mod names;
 mod sizes;
 mod tags;
 
-pub use links::{
-    hdr_to_next_hdr, hdr_to_prev_hdr, next_of, prev_of, set_chunk_next, set_chunk_prev,
-    set_next_field, set_prev_field,
-};
-pub use names::{
-    ByteOffset, Link, WordIndex, hdr_to_link, hdr_to_offset, hdr_to_payload, link_to_hdr,
-    offset_to_hdr, payload_to_hdr,
-};
-pub use sizes::{chunk_size_to_list_index, monus, rounded_size, start_index, threshold};
+pub use links::{Next, Prev, Side, hdr_to_linked_hdr, node_link, set_chunk_link, set_field};
+pub use names::{ByteOffset, Link, WordIndex, hdr_to_payload, payload_to_hdr};
+pub use sizes::{chunk_size_to_list_index, rounded_size, start_index, threshold};
 pub use tags::{
     get_hdr_chunk_size, hdr_to_ftr, hdr_to_left_ftr, hdr_to_left_hdr, hdr_to_right_hdr,
     is_left_free, is_right_free, is_this_free, put, set_ftr_chunk_size, set_hdr,

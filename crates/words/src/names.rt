@@ -7,48 +7,51 @@ ghost use Rattle.words.specs.Names.{links, offsets, payloads, held_name};
 
 // The name that free chunks call each other by; 16 bits.
 #[repr(C)]
-#[derive(Clone, Copy)]
+#[derive(Clone, Copy, PartialEq, Eq)]
 pub struct Link(pub u16);
 
 // The index of a word in the heap's slice.
-#[derive(Clone, Copy)]
+#[derive(Clone, Copy, PartialEq, Eq)]
 pub struct WordIndex(pub usize);
 
 // Bytes from the heap's start.
-#[derive(Clone, Copy)]
+#[derive(Clone, Copy, PartialEq, Eq)]
 pub struct ByteOffset(pub u32);
 
-// heap.rs: link_to_ptr.
-pub fn link_to_hdr(l: Link) -> WordIndex
-    ensures { result.0 ≡ links.word l.0 }
-{
-    let n = l.0 as usize;
-    if n < 6 {
-        WordIndex(0)
-    } else {
-        WordIndex(n - 6)
+// The header that a link names, word 0 for a sentinel's (heap.rs: link_to_ptr).
+impl From<Link> for WordIndex {
+    ghost from_gives = { λ l hdr. hdr.0 ≡ links.word l.0 };
+
+    fn from(l: Link) -> WordIndex {
+        WordIndex((l.0 as usize).saturating_sub(6))
     }
 }
 
-// heap.rs: ptr_to_link. The link of a header from word 65,530 on does not fit.
-pub fn hdr_to_link(hdr: WordIndex) -> Link
-    ensures { result.0 ≡ held_name links hdr.0 }
-{
-    Link(((hdr.0 % 65536 + 6) % 65536) as u16)
+// The link that names a header; that of a header from word 65,530 on does not fit (heap.rs: ptr_to_link).
+impl From<WordIndex> for Link {
+    ghost from_gives = { λ hdr l. l.0 ≡ held_name links hdr.0 };
+
+    fn from(hdr: WordIndex) -> Link {
+        Link(((hdr.0 % 65536 + 6) % 65536) as u16)
+    }
 }
 
 // The header's byte offset.
-pub fn hdr_to_offset(hdr: WordIndex) -> ByteOffset
-    ensures { result.0 ≡ held_name offsets hdr.0 }
-{
-    ByteOffset((hdr.0 % 0x4000_0000 * 4) as u32)
+impl From<WordIndex> for ByteOffset {
+    ghost from_gives = { λ hdr offset. offset.0 ≡ held_name offsets hdr.0 };
+
+    fn from(hdr: WordIndex) -> ByteOffset {
+        ByteOffset((hdr.0 % 0x4000_0000 * 4) as u32)
+    }
 }
 
 // The word that holds a byte.
-pub fn offset_to_hdr(offset: ByteOffset) -> WordIndex
-    ensures { result.0 ≡ offsets.word offset.0 }
-{
-    WordIndex((offset.0 / 4) as usize)
+impl From<ByteOffset> for WordIndex {
+    ghost from_gives = { λ offset hdr. hdr.0 ≡ offsets.word offset.0 };
+
+    fn from(offset: ByteOffset) -> WordIndex {
+        WordIndex((offset.0 / 4) as usize)
+    }
 }
 
 // Given the header, the payload's byte offset.
@@ -62,10 +65,5 @@ pub fn hdr_to_payload(hdr: WordIndex) -> ByteOffset
 pub fn payload_to_hdr(payload: ByteOffset) -> WordIndex
     ensures { result.0 ≡ payloads.word payload.0 }
 {
-    let p = payload.0;
-    if p < 4 {
-        WordIndex(0)
-    } else {
-        WordIndex(((p - 4) / 4) as usize)
-    }
+    WordIndex((payload.0.saturating_sub(4) / 4) as usize)
 }

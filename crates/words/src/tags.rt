@@ -6,18 +6,18 @@
 //     guard           the last word of the heap: length 0, used
 //
 // Flags are read and set by quotient and remainder. Contracts cite specs/Tags.antt.
-ghost use Rattle.std.specs.Prelude.{◌≡◌, ◌-◌, ◌/◌, ◌%◌, ◌^◌, set, slice_set};
+#![tactic(auto, unfolding(crate::specs::Tags::changed))]
+
+ghost use Rattle.std.specs.Prelude.{◌≡◌, ℕ, ◌-◌, ◌/◌, ◌%◌, ◌^◌, set, slice_set};
 ghost use Rattle.words.specs.Tags.{at, header_of, length_of, freeᵇ, left_freeᵇ, with_length, as_used, as_free, left_used, left_freed, right_of, footer_of, changed};
 
 use super::names::WordIndex;
-use super::sizes::monus;
 
 // The word at a place; 0 past the end.
 pub fn word(heap: &[u32], i: WordIndex) -> u32
     ensures { result ≡ at heap.now i.0 }
 {
-    let k = i.0;
-    if k < heap.len() { heap[k] } else { 0 }
+    heap.get(i.0).copied().unwrap_or(0)
 }
 
 // Stores a word; past the end nothing.
@@ -28,6 +28,15 @@ pub fn put(heap: &mut [u32], i: WordIndex, value: u32)
     if k < heap.len() {
         heap[k] = value;
     }
+}
+
+// Changes the word at a place to what f makes of it; past the end nothing.
+pub(crate) fn change<F: FnOnce(u32) -> u32>(heap: &mut [u32], i: WordIndex, f: F)
+    requires { F.IsAlwaysCallable f }
+    ensures { (w : ℕ) × F.post f (at heap.old i.0) w × (heap.new ≡ slice_set heap.old i.0 w) }
+{
+    let w = word(heap, i);
+    put(heap, i, f(w));
 }
 
 // Given the header, the chunk's length.
@@ -41,8 +50,7 @@ pub fn get_hdr_chunk_size(heap: &[u32], hdr: WordIndex) -> u32
 pub fn set_hdr_chunk_size(heap: &mut [u32], hdr: WordIndex, size: u32)
     ensures { heap.new ≡ changed (λ h. with_length h size) heap.old hdr.0 }
 {
-    let h = word(heap, hdr);
-    put(heap, hdr, size / 4 * 4 + h % 4);
+    change(heap, hdr, |h| size / 4 * 4 + h % 4);
 }
 
 // Writes a whole header (heap.rs: clear_hdr, set_hdr_chunk_size and the flags).
@@ -61,7 +69,7 @@ pub fn hdr_to_ftr(hdr: WordIndex, size: u32) -> WordIndex
     ensures { result.0 ≡ right_of hdr.0 size % 2 ^ 64 - 1 }
 {
     let right = hdr_to_right_hdr(hdr, size);
-    WordIndex(monus(right.0, 1))
+    WordIndex(right.0.saturating_sub(1))
 }
 
 // Sets the length in a footer.
@@ -75,21 +83,21 @@ pub fn set_ftr_chunk_size(heap: &mut [u32], ftr: WordIndex, size: u32)
 pub fn hdr_to_right_hdr(hdr: WordIndex, size: u32) -> WordIndex
     ensures { result.0 ≡ right_of hdr.0 size % 2 ^ 64 }
 {
-    WordIndex(std::num::wrapping_add_usize(hdr.0, (size / 4) as usize))
+    WordIndex(hdr.0.wrapping_add((size / 4) as usize))
 }
 
 // Given the header, the left neighbour's footer.
 pub fn hdr_to_left_ftr(hdr: WordIndex) -> WordIndex
     ensures { result.0 ≡ hdr.0 - 1 }
 {
-    WordIndex(monus(hdr.0, 1))
+    WordIndex(hdr.0.saturating_sub(1))
 }
 
 // Given the header and the length of the left neighbour, the left neighbour's header.
 pub fn hdr_to_left_hdr(hdr: WordIndex, size: u32) -> WordIndex
     ensures { result.0 ≡ hdr.0 - size / 4 }
 {
-    WordIndex(monus(hdr.0, (size / 4) as usize))
+    WordIndex(hdr.0.saturating_sub((size / 4) as usize))
 }
 
 // Whether the chunk is free.
@@ -117,30 +125,26 @@ pub fn is_right_free(heap: &[u32], hdr: WordIndex, size: u32) -> bool
 pub fn set_this_free(heap: &mut [u32], hdr: WordIndex)
     ensures { heap.new ≡ changed as_free heap.old hdr.0 }
 {
-    let h = word(heap, hdr);
-    put(heap, hdr, h / 4 * 4 + h % 2);
+    change(heap, hdr, |h| h / 4 * 4 + h % 2);
 }
 
 // Marks the chunk as allocated.
 pub fn set_self_allocated(heap: &mut [u32], hdr: WordIndex)
     ensures { heap.new ≡ changed as_used heap.old hdr.0 }
 {
-    let h = word(heap, hdr);
-    put(heap, hdr, h / 4 * 4 + 2 + h % 2);
+    change(heap, hdr, |h| h / 4 * 4 + 2 + h % 2);
 }
 
 // Marks the left neighbour as allocated, in this header.
 pub fn set_left_allocated(heap: &mut [u32], hdr: WordIndex)
     ensures { heap.new ≡ changed left_used heap.old hdr.0 }
 {
-    let h = word(heap, hdr);
-    put(heap, hdr, h / 2 * 2 + 1);
+    change(heap, hdr, |h| h / 2 * 2 + 1);
 }
 
 // Marks the left neighbour as free, in this header.
 pub fn set_left_free(heap: &mut [u32], hdr: WordIndex)
     ensures { heap.new ≡ changed left_freed heap.old hdr.0 }
 {
-    let h = word(heap, hdr);
-    put(heap, hdr, h / 2 * 2);
+    change(heap, hdr, |h| h / 2 * 2);
 }

@@ -1,6 +1,6 @@
 -- `audit::audit` meets its contract: each test that fails shuts soundness out, and where all hold the pair is sound, by words and counts and so by
 -- the rules.
-use Rattle.std.proofs.Common.{◌≡◌, ℕ, Bool, true, ◌↔◌, List, length, sym, ◌∙◌, arith}
+use Rattle.std.proofs.Common.{◌≡◌, ℕ, Bool, true, ◌↔◌, List, length, sym, ◌∙◌, ⊎_elim, arith}
 use mathlib.Core.Bool.{false≢true}
 use Rattle.words.specs.declared.names.Link.{Link}
 use Rattle.words.specs.Links.{narrow}
@@ -15,76 +15,72 @@ use Rattle.audit.proofs.Cached.{held_fit}
 use Rattle.audit.proofs.tiling.Tallies.{tally_broken}
 use Rattle.audit.proofs.Counting.{refused, passed_on}
 use Rattle.audit.proofs.audit.Goals as goal
+use Rattle.audit.proofs.audit.Goals.{then-t-n-via-then-t-n, then-t-n-via-else-t-n+then-not-figures_right}
 
 -- an answer that is true exactly where the pair is sound is the rules' test of what was given
 told : {places : ℕ} (prev next : List Link) (f : Figures) (ws : List ℕ) → length prev ≡ 6 → length next ≡ 6 → {b : Bool}
     → (b ≡ true) ↔ SoundPair places prev next f ws → b ≡ soundᵇ (ops narrow) 65529 places (shown prev next f ws)
 told {places = places} prev next f ws p n {b = b} e = tells places prev next f ws p n b e
 
-pub returns-then-not-links : goal.returns-then-not-links
-returns-then-not-links c =
+pub returns-then-not-links_right : goal.returns-then-not-links_right
+returns-then-not-links_right c =
     told _ _ c.args.figures _ (omega (arith, c.well_formed)) (omega (arith, c.well_formed))
-    (refused (λ s. false≢true (sym c.if-not-links.true ∙ c.links_right-links.ensures ∙ links_of _ _ _ _ _ s)))
+    (refused (λ s.
+    ⊎_elim
+    (λ l. false≢true (sym l ∙ c.links_right.ensures ∙ links_of _ _ _ _ _ s))
+    (λ l. omega (arith, l.1, s.figures.most))
+    c.then-not-links_right.either))
 
-pub returns-then-heap-gt65529 : goal.returns-then-heap-gt65529
-returns-then-heap-gt65529 c =
-    told _ _ c.args.figures _ (omega (arith, c.well_formed)) (omega (arith, c.well_formed))
-    (refused (λ s. omega (arith, c.if-heap-gt65529.true, s.figures.most)))
-
-pub returns-then-not-whole : goal.returns-then-not-whole
-returns-then-not-whole c =
-    let broken = tally_broken _ _ c.count_chunks-t.ensures.0 c.if-not-whole.true in
+pub returns-in_default : goal.returns-in_default
+returns-in_default c =
+    let broken = tally_broken _ c.in_default.ensures.0 in
     told _ _ c.args.figures _ (omega (arith, c.well_formed)) (omega (arith, c.well_formed)) (refused (not_broken _ _ _ _ _ broken))
 
 pub returns-then-t-n : goal.returns-then-t-n
 returns-then-t-n c =
-    let whole = c.if-not-whole.false in
-    let found = found_of _ _ _ _ c.cached_words-ws.ensures (c.count_chunks-t.ensures.1 whole) in
-    told _ _ c.args.figures _ (omega (arith, c.well_formed)) (omega (arith, c.well_formed))
-    (refused (λ s. omega (arith, c.if-t-n.true, found.end (cache_of _ _ _ _ _ s))))
-
-pub returns-then-not-right : goal.returns-then-not-right
-returns-then-not-right c =
-    let walk = c.count_chunks-t.ensures in
-    let whole = c.if-not-whole.false in
-    let words = c.cached_words-ws.ensures in
-    let found = found_of _ _ _ _ words (walk.1 whole) in
-    let held = held_of_lem _ _ _ words c.lengths_at-held.ensures (found.all (omega (arith, c.if-t-n.false))) in
+    let walk = c.in-Some.ensures in
+    let words = rw c.len-n.ensures.is at c.cached_words-ws.ensures in
+    let found = found_of _ _ _ _ words walk.1 in
     told _ _ c.args.figures _ (omega (arith, c.well_formed)) (omega (arith, c.well_formed))
     (refused (λ s.
-    let fit = held_fit _ _ _ _ _ _ (sym held) (figures_of_lem _ _ _ _ _ _ walk.0 whole found.first s) in
-    false≢true (sym c.if-not-right.true ∙ c.figures_right-right.ensures.1 fit)))
+    elim c.then-t-n.branch [
+      | then-t-n-via-then-t-n w ↦ omega (arith, w.if-t-n.true, c.len-n.ensures.is, found.end (cache_of _ _ _ _ _ s))
+      | then-t-n-via-else-t-n+then-not-figures_right w ↦
+          let held = held_of_lem _ _ _ words w.lengths_at.ensures (found.all (omega (arith, w.if-t-n.false, c.len-n.ensures.is))) in
+          let fit = held_fit _ _ _ _ _ _ (sym held) (figures_of_lem _ _ _ _ _ _ walk.0 found.first s) in
+          false≢true (sym w.if-not-figures_right.true ∙ w.figures_right.ensures.1 (rw c.len-n.ensures.is fit))
+    ]))
 
-pub returns-then-not-rings : goal.returns-then-not-rings
-returns-then-not-rings c =
-    let walk = c.count_chunks-t.ensures in
-    let whole = c.if-not-whole.false in
-    let found = found_of _ _ _ _ c.cached_words-ws.ensures (walk.1 whole) in
-    told _ _ c.args.figures _ (omega (arith, c.well_formed)) (omega (arith, c.well_formed))
+pub returns-else-rings_right : goal.returns-else-rings_right
+returns-else-rings_right c =
+    let walk = c.in-Some.ensures in
+    let words = rw c.len-n.ensures.is at c.cached_words-ws.ensures in
+    let found = found_of _ _ _ _ words walk.1 in
+    rw c.if-rings_right.false
+    (told _ _ c.args.figures _ (omega (arith, c.well_formed)) (omega (arith, c.well_formed))
     (refused (λ s.
-    let rings = rings_of _ _ _ _ _ _ walk.0 whole found.first s in
-    false≢true (sym c.if-not-rings.true ∙ c.rings_right-rings.ensures.1 rings)))
+    let rings = rings_of _ _ _ _ _ _ walk.0 found.first s in
+    false≢true (sym c.if-rings_right.false ∙ c.rings_right.ensures.1 rings))))
 
 pub lists_right-requires : goal.lists_right-requires
 lists_right-requires c =
-    let walk = c.count_chunks-t.ensures in
-    let whole = c.if-not-whole.false in
-    let found = found_of _ _ _ _ c.cached_words-ws.ensures (walk.1 whole) in
-    let rings = c.rings_right-rings.ensures.0 c.if-not-rings.false in
-    ringed_of c.args.places c.args.prev _ c.args.figures _ _ walk.0 whole found.first rings (omega (arith, c.if-heap-gt65529.false))
+    let walk = c.in-Some.ensures in
+    let words = rw c.len-n.ensures.is at c.cached_words-ws.ensures in
+    let found = found_of _ _ _ _ words walk.1 in
+    let rings = c.rings_right.ensures.0 c.if-rings_right.true in
+    ringed_of c.args.places c.args.prev _ c.args.figures _ _ walk.0 found.first rings
 
-pub returns : goal.returns
-returns c =
-    let walk = c.count_chunks-t.ensures in
-    let whole = c.if-not-whole.false in
-    let words = c.cached_words-ws.ensures in
-    let found = found_of _ _ _ _ words (walk.1 whole) in
-    let links = sym c.links_right-links.ensures ∙ c.if-not-links.false in
-    let cache = found.all (omega (arith, c.if-t-n.false)) in
-    let held = held_of_lem _ _ _ words c.lengths_at-held.ensures cache in
-    let right = c.figures_right-right.ensures.0 c.if-not-right.false in
+pub returns-then-rings_right : goal.returns-then-rings_right
+returns-then-rings_right c =
+    let walk = c.in-Some.ensures in
+    let words = rw c.len-n.ensures.is at c.cached_words-ws.ensures in
+    let found = found_of _ _ _ _ words walk.1 in
+    let links = sym c.links_right.ensures ∙ c.if-not-links_right.false in
+    let cache = found.all (omega (arith, c.if-t-n.false, c.len-n.ensures.is)) in
+    let held = held_of_lem _ _ _ words c.lengths_at.ensures cache in
+    let right = rw c.len-n.ensures.is at (c.figures_right.ensures.0 c.if-not-figures_right.false) in
     let figures = held_fit _ _ _ _ _ _ held right in
-    let rings = c.rings_right-rings.ensures.0 c.if-not-rings.false in
+    let rings = c.rings_right.ensures.0 c.if-rings_right.true in
     told _ _ c.args.figures _ (omega (arith, c.well_formed)) (omega (arith, c.well_formed))
-    (passed_on _ c.lists_right.ensures (sound_of _ _ _ _ _ _ walk.0 whole found.first rings figures links cache)
-    (listed_of _ _ _ _ _ _ walk.0 whole found.first))
+    (passed_on _ c.lists_right.ensures (sound_of _ _ _ _ _ _ walk.0 found.first rings figures links cache)
+    (listed_of _ _ _ _ _ _ walk.0 found.first))

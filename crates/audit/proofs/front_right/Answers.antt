@@ -1,18 +1,12 @@
--- `audit::front_right` meets its contract, test by test.
-use Rattle.std.proofs.Common.{not, ap, eq-eqb, ne_eqb, le-leb}
-use borrow.Author.Tests.{lt-leb}
-use Rattle.words.proofs.Laws.Numbers.{numbers_at}
+-- `audit::front_right` meets its contract: a link is listed where one of the others is the same.
+use Rattle.std.proofs.Common.{◌∙◌, sym, not, ap, ne_eqb, le-leb}
+use borrow.Author.Tests.{eqb-false}
 use Rattle.audit.specs.Cached.{front_right}
+use Rattle.audit.proofs.Links.{listed_any}
 use Rattle.audit.proofs.front_right.Goals as goal
 
-pub returns-then-l-eq0 : goal.returns-then-l-eq0
+pub returns-then-l-ge6 : goal.returns-then-l-ge6
 unfolding front_right
-returns-then-l-eq0 c = rw (eq-eqb _ _ c.if-l-eq0.true, numbers_at)
-
-pub returns-then-l-lt6 : goal.returns-then-l-lt6
-unfolding front_right
-returns-then-l-lt6 c = rw (ne_eqb _ _ c.if-l-eq0.false, lt-leb _ _ c.if-l-lt6.true)
-
-pub returns : goal.returns
-unfolding front_right
-returns c = rw (ne_eqb _ _ c.if-l-eq0.false, le-leb _ _ c.if-l-lt6.false) (ap not c.holds.ensures)
+returns-then-l-ge6 c =
+    let some = eqb-false _ _ (sym c.eq.ensures ∙ c.if-eq.false) in
+    rw (ne_eqb _ _ some, le-leb _ _ c.if-l-ge6.true) (ap not (c.contains.ensures.value ∙ listed_any _ _))

@@ -1,5 +1,5 @@
 -- `cache::left_out` meets its contract: the four arrays are what leaving one out gives.
-use native.Mathlib.Omega.{arith}
+use Rattle.std.proofs.Common.{arith}
 use Rattle.cache.proofs.Four.{min_three, out_0, out_1, out_2, out_3}
 use Rattle.cache.proofs.left_out.Goals as goal
 

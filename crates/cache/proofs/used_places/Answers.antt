@@ -1,40 +1,18 @@
--- `cache::used_places` meets its contract, place by place.
-use native.Mathlib.Omega.{arith}
-use borrow.Author.Tests.{eq-eqb, ne_eqb}
-use Rattle.cache.specs.Places.{used_places}
-use Rattle.cache.proofs.Four.{four}
+-- `cache::used_places` meets its contract: it counts the links before the first link 0.
+use Rattle.std.proofs.Common.{◌∙◌, not, rules, tests}
+use Rattle.std.specs.Prelude.{◌==◌}
+use Rattle.std.proofs.lemmas.Iterator.{YieldsList-from_slice}
+use Rattle.std.proofs.lemmas.Iterator.Consumers.{count_from_yields_List}
+use Rattle.std.proofs.lemmas.Iterator.Search.{YieldsList-from_take_while}
+use Rattle.std.proofs.lemmas.List.Folds.{length-prefix_len}
+use Rattle.words.specs.declared.names.Link.{Link}
+use Rattle.cache.proofs.Four.{used_by}
 use Rattle.cache.proofs.used_places.Goals as goal
 
-pub returns-then-c-eq0 : goal.returns-then-c-eq0
-unfolding used_places
-returns-then-c-eq0 c = rw (four c.args.c (omega (arith, c.well_formed)), eq-eqb _ _ c.if-c-eq0.true)
-
-pub returns-then-c-eq0-2 : goal.returns-then-c-eq0-2
-unfolding used_places
-returns-then-c-eq0-2 c =
-    let n1 = ne_eqb _ _ c.if-c-eq0.false in
-    rw (four c.args.c (omega (arith, c.well_formed)), n1, eq-eqb _ _ c.if-c-eq0-2.true)
-
-pub returns-then-c-eq0-3 : goal.returns-then-c-eq0-3
-unfolding used_places
-returns-then-c-eq0-3 c =
-    let n1 = ne_eqb _ _ c.if-c-eq0.false in
-    let n2 = ne_eqb _ _ c.if-c-eq0-2.false in
-    rw (four c.args.c (omega (arith, c.well_formed)), n1, n2, eq-eqb _ _ c.if-c-eq0-3.true)
-
-pub returns-then-c-eq0-4 : goal.returns-then-c-eq0-4
-unfolding used_places
-returns-then-c-eq0-4 c =
-    let n1 = ne_eqb _ _ c.if-c-eq0.false in
-    let n2 = ne_eqb _ _ c.if-c-eq0-2.false in
-    let n3 = ne_eqb _ _ c.if-c-eq0-3.false in
-    rw (four c.args.c (omega (arith, c.well_formed)), n1, n2, n3, eq-eqb _ _ c.if-c-eq0-4.true)
-
 pub returns : goal.returns
-unfolding used_places
 returns c =
-    let n1 = ne_eqb _ _ c.if-c-eq0.false in
-    let n2 = ne_eqb _ _ c.if-c-eq0-2.false in
-    let n3 = ne_eqb _ _ c.if-c-eq0-3.false in
-    let n4 = ne_eqb _ _ c.if-c-eq0-4.false in
-    rw (four c.args.c (omega (arith, c.well_formed)), n1, n2, n3, n4)
+    count_from_yields_List c.take_while.result _ c.count.ensures.ran
+    (YieldsList-from_take_while _ (λ (l : Link). not (l.0 == 0)) (YieldsList-from_slice c.args.c cc) c.take_while.ensures.closure c.take_while.ensures.done
+    (λ x b q k. search (rules, tests)))
+    ∙ length-prefix_len (λ (l : Link). not (l.0 == 0)) c.args.c
+    ∙ used_by c.args.c

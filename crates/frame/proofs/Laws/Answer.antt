@@ -119,3 +119,6 @@ answered_by out x y z number value compared h e f g =
     let m : length p ≡ 18 = simp (length-append, length_digits) in
     let fed = set_at p (get_or out 18 0) (drop 19 out) 10 18 m in
     rw (answered_room out number value compared h, three, drop-cons out 18 0 h, fed, append_assoc p (10 ∷ []) (drop 19 out))
+
+-- as the code writes, if there is room
+pub ruleset by_room = (length_answered, answered_short, answered_by)

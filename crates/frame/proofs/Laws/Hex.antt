@@ -5,7 +5,7 @@
 --     value_append, value_grows, value_below    digits read on; w of them say a number below 16 ^ w
 --     value_of_digits     a number's last w digits say what is left of it by 16 ^ w
 --     digits_of_value     w digits are the last w digits of the number that they say
---     write_start, write_on, write_end     digits written from the last to the first
+--     write_on, write_end     digits written from the last to the first
 use mathlib.Core.Path.{◌≡◌, refl, sym, ap, ◌∙◌}
 use mathlib.Core.Bool.{Bool, true, false, ◌&&◌, cond, and_assoc, false≢true}
 use mathlib.Core.List.{List, [], ◌∷◌, ◌++◌, append_assoc, append-nil}
@@ -16,9 +16,10 @@ use native.Mathlib.Omega.{arith}
 use lib.Arith.{mod-mul}
 use lib.Dec.{leb, ltb, lit<}
 use lib.ListN.{length, drop, set, length-append, length-set}
-use lib.Seq.{drop-length, drop-cons, get_or-set_same, drop-set-lt}
+use lib.Seq.{drop-cons, get_or-set_same, drop-set-lt}
 use borrow.Author.Tests.{lt-ltb, le-ltb, le-leb, lt-leb, ltb-true, ltb-false, leb-true}
-use Rattle.frame.specs.Hex.{digit_of, byte_of, all_digits, value_from, value_of, digits_of}
+use Rattle.std.specs.Prelude.{Some, None}
+use Rattle.frame.specs.Hex.{digit_of, digit_in, byte_of, all_digits, value_from, value_of, digits_of}
 
 -- where "both" holds, each does
 pub both : (s t : Bool) → (s && t) ≡ true → (s ≡ true) × (t ≡ true)
@@ -50,6 +51,39 @@ by_digit C b f g z = go (leb 48 b && leb b 57) (leb 65 b && leb b 70) refl refl
 -- a byte in neither range is none
 pub digit_none : (b : ℕ) → (48 ≤ b → 57 < b) → (65 ≤ b → 70 < b) → digit_of b ≡ 16
 digit_none b p q = by_digit (λ d. d ≡ 16) b (λ h l. absurd (omega (arith, p h))) (λ h l. absurd (omega (arith, q h))) refl
+
+-- the same as the code has it
+pub in_low : (b : ℕ) → 48 ≤ b → b ≤ 57 → digit_in b ≡ Some (b - 48)
+unfolding digit_in
+in_low b h l = rw (digit_low b h l, lt-ltb (b - 48) 16 (omega arith))
+
+pub in_high : (b : ℕ) → 65 ≤ b → b ≤ 70 → digit_in b ≡ Some (b - 65 + 10)
+unfolding digit_in
+in_high b h l = let e : b - 55 ≡ b - 65 + 10 = omega arith in rw (digit_high b h l, e, lt-ltb (b - 65 + 10) 16 (omega arith))
+
+pub in_none : (b : ℕ) → (48 ≤ b → 57 < b) → (65 ≤ b → 70 < b) → digit_in b ≡ None
+unfolding digit_in
+in_none b p q = rw (digit_none b p q)
+
+-- as the code asks, range by range
+pub ruleset by_range = (in_low, in_high, in_none)
+
+-- what the code's answer tells of a byte
+pub in_some : (b d : ℕ) → Some d ≡ digit_in b → (digit_of b ≡ d) × (d < 16)
+unfolding digit_in
+in_some b d = go (ltb (digit_of b) 16) refl
+  where
+    go : (t : Bool) → ltb (digit_of b) 16 ≡ t → Some d ≡ cond t (Some (digit_of b)) None → (digit_of b ≡ d) × (d < 16)
+    go true e h = let same : digit_of b ≡ d = cc in (same, rw same at (ltb-true (digit_of b) 16 e))
+    go false e h = let z : ◌≡◌ {A = ℕ} 0 1 = cc in absurd (omega arith)
+
+pub no_digit : (b : ℕ) → None ≡ digit_in b → ltb (digit_of b) 16 ≡ false
+unfolding digit_in
+no_digit b = go (ltb (digit_of b) 16)
+  where
+    go : (t : Bool) → None ≡ cond t (Some (digit_of b)) None → t ≡ false
+    go true h = let z : ◌≡◌ {A = ℕ} 0 1 = cc in absurd (omega arith)
+    go false h = refl
 
 -- the digit of a value says that value
 pub digit_of_byte : (d : ℕ) → d < 16 → digit_of (byte_of d) ≡ d
@@ -143,10 +177,6 @@ value_below bs h =
 
 -- ---- digits written from the last to the first
 
--- nothing written yet
-pub write_start : (out : List ℕ) (n : ℕ) → digits_of (length out) n ≡ digits_of (length out) n ++ drop (length out) out
-write_start out n = rw (drop-length, append-nil)
-
 -- the last digit of what is left, written before those that are
 pub write_on : (out : List ℕ) (k n b : ℕ) → 0 < k → k ≤ length out → b ≡ byte_of (n % 16)
     → digits_of k n ++ drop k out ≡ digits_of (k - 1) (n / 16) ++ drop (k - 1) (set out (k - 1) b)
@@ -162,3 +192,6 @@ pub write_end : (out : List ℕ) (k n : ℕ) → k ≤ 0 → digits_of k n ++ dr
 unfolding digits_of
 write_end out zero n h = refl
 write_end out (suc k) n h = absurd (omega arith)
+
+-- as the code writes
+pub ruleset from_the_end = (write_on, write_end)

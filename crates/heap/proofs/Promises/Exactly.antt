@@ -24,9 +24,8 @@ use Rattle.rules.specs.Demands.Demands.{Demands, Iff, Allowable, numbers_of}
 use Rattle.rules.proofs.Demands.Proved.{narrow_demands}
 use Rattle.rules.proofs.Demands.Promises.{narrow_promises}
 use Rattle.heap.specs.declared.record.Record.{Record}
-use Rattle.heap.specs.declared.calls.Out.{Out}
 use Rattle.heap.specs.Seen.{seen, base}
-use Rattle.heap.specs.Answer.{number, value, compared}
+use Rattle.heap.specs.Answer.{Out, number, value, compared}
 use Rattle.heap.specs.Promises.{Makes, HandsOut, TakesBack, Calls, ShowsIn, SoundIn, NeverIn, UnfitIn, live_in}
 use Rattle.heap.proofs.Histories.{outcome_call}
 use Rattle.rules.specs.Rules.Lists.{Mem}

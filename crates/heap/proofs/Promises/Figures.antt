@@ -17,9 +17,8 @@ use Rattle.rules.proofs.Demands.Promises.{narrow_promises}
 use Rattle.words.specs.Numbers.{numbers}
 use Rattle.cache.specs.Places.{cached_of}
 use Rattle.heap.specs.declared.record.Record.{Record}
-use Rattle.heap.specs.declared.calls.Out.{Out}
 use Rattle.heap.specs.Seen.{seen, base, figures_of}
-use Rattle.heap.specs.Answer.{number, value, compared}
+use Rattle.heap.specs.Answer.{Out, number, value, compared}
 use Rattle.heap.specs.Promises.{Makes, HandsOut, TakesBack, ShowsIn, SoundIn, live_in}
 use Rattle.rules.specs.Demands.Lives.{live_at}
 use Rattle.rules.specs.Demands.Promises.{CountedUp, HeldOnly, Promises}

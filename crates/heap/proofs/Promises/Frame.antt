@@ -16,9 +16,8 @@ use Rattle.rules.specs.Rules.Making.{State}
 use Rattle.rules.specs.Sound.Model.{Model}
 use Rattle.rules.specs.Machine.Machine.{size_m, without_cache_m}
 use Rattle.heap.specs.declared.record.Record.{Record}
-use Rattle.heap.specs.declared.calls.Out.{Out}
 use Rattle.heap.specs.Seen.{seen}
-use Rattle.heap.specs.Answer.{value, compared}
+use Rattle.heap.specs.Answer.{Out, value, compared}
 use Rattle.heap.specs.Promises.{Makes, HandsOut, TakesBack, ShowsIn}
 use Rattle.rules.specs.Machine.Orders.{free_head, free_last}
 use Rattle.rules.specs.Demands.Frame.{NoLink, Outside, Clear}

@@ -14,9 +14,8 @@ use Rattle.rules.specs.Sound.Sound.{Shows, Sound}
 use Rattle.rules.specs.Demands.Demands.{Demands}
 use Rattle.rules.proofs.Demands.Proved.{narrow_demands, narrow_making}
 use Rattle.heap.specs.declared.record.Record.{Record}
-use Rattle.heap.specs.declared.calls.Out.{Out}
 use Rattle.heap.specs.Seen.{seen, base, FourPlaces}
-use Rattle.heap.specs.Answer.{number}
+use Rattle.heap.specs.Answer.{Out, number}
 use Rattle.heap.specs.Promises.{Makes, Calls, ShowsIn, SoundIn}
 use Rattle.heap.proofs.Apart.{outcome_same}
 use Rattle.heap.proofs.Histories.{outcome_call, after_call}

@@ -18,9 +18,8 @@ use Rattle.rules.specs.Demands.Meaning.{LiveAt, Holds}
 use Rattle.rules.specs.Demands.Demands.{Demands}
 use Rattle.rules.proofs.Demands.Proved.{narrow_demands}
 use Rattle.heap.specs.declared.record.Record.{Record}
-use Rattle.heap.specs.declared.calls.Out.{Out}
 use Rattle.heap.specs.Seen.{seen, base}
-use Rattle.heap.specs.Answer.{number, value}
+use Rattle.heap.specs.Answer.{Out, number, value}
 use Rattle.heap.specs.Promises.{Makes, HandsOut, TakesBack, ShowsIn, SoundIn, live_in}
 use Rattle.heap.proofs.Promises.Kept.{sound_kept}
 use Rattle.heap.proofs.Promises.Exactly.{served_exactly}

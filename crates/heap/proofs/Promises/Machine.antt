@@ -21,9 +21,8 @@ use Rattle.rules.proofs.Demands.Proved.{narrow_demands, narrow_edition}
 use Rattle.rules.proofs.Demands.Promises.{narrow_promises}
 use Rattle.rules.proofs.Demands.Runs.{steps_machine, replies_machine, write_shows}
 use Rattle.heap.specs.declared.record.Record.{Record}
-use Rattle.heap.specs.declared.calls.Out.{Out}
 use Rattle.heap.specs.Seen.{seen, base}
-use Rattle.heap.specs.Answer.{number, value, said}
+use Rattle.heap.specs.Answer.{Out, number, value, said}
 use Rattle.heap.specs.Promises.{Makes, HandsOut, Calls, LiveIn, FromMaking, ShowsIn, live_in}
 use Rattle.heap.proofs.Histories.{after_call, history, answer_call}
 use Rattle.rules.specs.Demands.Promises.{Promises}

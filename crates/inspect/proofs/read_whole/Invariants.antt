@@ -1,10 +1,9 @@
--- `inspect::read_whole` meets its contract. Measure: the room that is left, and one turn more.
-use Rattle.std.proofs.Common.{◌+◌, ◌-◌, ◌≤◌, length}
-use Rattle.words.specs.Choice.{pick}
+-- `inspect::read_whole` meets its contract. Measure: the room that is left.
+use Rattle.std.proofs.Common.{◌-◌, ◌≤◌, length}
 use Rattle.inspect.proofs.read_whole.Given as goal
 
-abbrev pub invariant-loop-w : goal.invariant-loop-w
-invariant-loop-w g l = l.w.len ≤ length l.text
+abbrev pub invariant-loop-count : goal.invariant-loop-count
+invariant-loop-count g l = l.len ≤ length l.text
 
-abbrev pub decreases-loop-w : goal.decreases-loop-w
-decreases-loop-w g l = length l.text - l.w.len + pick l.w.more 1 0
+abbrev pub decreases-loop-count : goal.decreases-loop-count
+decreases-loop-count g l = length l.text - l.len

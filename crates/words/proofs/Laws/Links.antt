@@ -2,7 +2,6 @@
 --     Lawful, narrow_lawful, wide_lawful     what a width has to keep, and that both widths keep it
 --     link-set_link-same, -other, -side, -even, -apart     links in the words after one is stored
 --     length-set_link, at-set_link, link_set                what else a store keeps
---     set_link-by                                          reading a link word and storing what is put together sets the link
 --     node_store_same, _other, _side, node-set            the same of nodes, in the sentinels and the words
 --     length-set_sentinel, length-set_chunk, at-set_chunk
 use Rattle.std.proofs.Common.{◌≡◌, ℕ, ◌+◌, ◌-◌, ◌%◌, ◌<◌, ◌≤◌, ◌≢◌, List, length, set, refl, ap, ◌∙◌, arith, length-set, get_or-set_other, get_or-set_same, le-ltb, lt-ltb}
@@ -71,12 +70,6 @@ module _ (W : Width) (a : Side) (ws : List ℕ) (w l : ℕ) where
   -- another header's link of that side
   pub link-set_link-other : (u : ℕ) → u ≢ w → link_at W a (set_link_at W a ws w l) u ≡ link_at W a ws u
   link-set_link-other u h = link-set_link-apart a u (omega arith)
-
--- the link word is read, and what the width puts together of it and the link is stored: the link is set
-pub set_link-by : (W : Width) (a : Side) (ws vs : List ℕ) (w l i x : ℕ)
-    → i ≡ w + W.place a → x ≡ at ws i → vs ≡ set ws i (W.put a x l) → vs ≡ set_link_at W a ws w l
-unfolding set_link_at
-set_link-by W a ws vs w l i x e f g = rw (g, f, e)
 
 -- a store into any word but the link's keeps the link
 pub link_set : (W : Width) (a : Side) (ws : List ℕ) (w i x : ℕ) → w + W.place a ≢ i → link_at W a (set ws i x) w ≡ link_at W a ws w

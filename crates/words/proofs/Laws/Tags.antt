@@ -1,6 +1,5 @@
 -- Laws of `specs/Tags.antt`. Assumes nothing.
 --     length-changed, at-changed_same, at-changed_other     the words after one is changed
---     changed_by        reading a word and storing what f makes of it changes it by f
 --     at-set_unseen     what a store does not show at its own word, it shows nowhere
 --     header_length, header_free, header_left               what a header says is what it was made of
 use Rattle.std.proofs.Common.{◌≡◌, ℕ, ◌*◌, ◌/◌, ◌%◌, ◌<◌, Bool, not, ◌≢◌, List, length, set, sym, ap, ◌∙◌, subst, arith, length-set, get_or-set_other, get_or-set_same}
@@ -38,11 +37,6 @@ module _ (f : ℕ → ℕ) (ws : List ℕ) (i : ℕ) where
   pub at-changed_other : (j : ℕ) → j ≢ i → at (changed f ws i) j ≡ at ws j
   unfolding changed
   at-changed_other j h = get_or-set_other ws i j _ 0 h
-
-  -- a word is read, and what f makes of it is stored: the word is changed by f
-  pub changed_by : (vs : List ℕ) (h : ℕ) → h ≡ at ws i → vs ≡ set ws i (f h) → vs ≡ changed f ws i
-  unfolding changed
-  changed_by vs h e d = rw (d, e)
 
 -- ---- headers
 

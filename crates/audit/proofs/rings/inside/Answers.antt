@@ -1,17 +1,18 @@
 -- `audit::rings::inside` meets its contract, test by test.
-use Rattle.std.proofs.Common.{le-ltb, lt-ltb}
+use Rattle.std.proofs.Common.{arith}
+use Rattle.std.proofs.lemmas.Grind.{common_steps}
 use Rattle.audit.specs.Rings.{insideᵇ}
 use Rattle.audit.specs.Layout.{pick}
 use Rattle.audit.proofs.rings.inside.Goals as goal
 
 pub returns-then-k-lt6 : goal.returns-then-k-lt6
 unfolding insideᵇ pick
-returns-then-k-lt6 c = simp (lt-ltb _ _ c.if-k-lt6.true)
+returns-then-k-lt6 c = grind (arith, common_steps)
 
-pub returns-then-w-first : goal.returns-then-w-first
+pub returns-then-first-w : goal.returns-then-first-w
 unfolding insideᵇ pick
-returns-then-w-first c = simp (le-ltb _ _ c.if-k-lt6.false, lt-ltb _ _ c.if-w-first.true)
+returns-then-first-w c = grind (arith, common_steps)
 
-pub returns : goal.returns
+pub returns-else-first-w : goal.returns-else-first-w
 unfolding insideᵇ pick
-returns c = simp (le-ltb _ _ c.if-k-lt6.false, le-ltb _ _ c.if-w-first.false)
+returns-else-first-w c = grind (arith, common_steps)

@@ -1,10 +1,11 @@
 -- `audit::windows::lists_right` meets its contract. Invariant: every listed link below here names a free chunk of its class. Measure: the words ahead.
 use Rattle.std.proofs.Common.{◌-◌, length}
+use Rattle.words.specs.Choice.{bit}
 use Rattle.audit.proofs.windows.Lists.{Showing}
 use Rattle.audit.proofs.windows.lists_right.Given as goal
 
-abbrev pub invariant-loop-at : goal.invariant-loop-at
-invariant-loop-at l = Showing l.next l.heap l.frees l.at l.left
+abbrev pub invariant-loop-stand : goal.invariant-loop-stand
+invariant-loop-stand l = Showing l.next l.heap.words.now l.frees l.stand.at (bit l.stand.left)
 
-abbrev pub decreases-loop-at : goal.decreases-loop-at
-decreases-loop-at l = length l.heap - l.at
+abbrev pub decreases-loop-stand : goal.decreases-loop-stand
+decreases-loop-stand l = length l.heap.words.now - l.stand.at

@@ -1,10 +1,11 @@
 -- `audit::windows::mark` meets its contract. Invariant: from where the window starts up to here, the marks are the free chunks. Measure: the words ahead.
 use Rattle.std.proofs.Common.{◌≡◌, ◌-◌, length}
+use Rattle.words.specs.Choice.{bit}
 use Rattle.audit.proofs.windows.Steps.{Marking}
 use Rattle.audit.proofs.windows.mark.Given as goal
 
-abbrev pub invariant-loop-at : goal.invariant-loop-at
-invariant-loop-at l = Marking l.heap l.marks l.from l.at l.side × (length l.marks ≡ length l.initial.marks)
+abbrev pub invariant-loop-stand : goal.invariant-loop-stand
+invariant-loop-stand l = Marking l.heap.words.now l.marks l.from.at l.stand.at (bit l.stand.left) × (length l.marks ≡ length l.initial.marks)
 
-abbrev pub decreases-loop-at : goal.decreases-loop-at
-decreases-loop-at l = length l.heap - l.at
+abbrev pub decreases-loop-stand : goal.decreases-loop-stand
+decreases-loop-stand l = length l.heap.words.now - l.stand.at

@@ -1,58 +1,35 @@
 -- `feed::pieces::feed` meets its contract; Invariants.antt says what its loop keeps.
-use mathlib.Core.Path.{refl, ◌∙◌}
+use mathlib.Core.Path.{◌≡◌}
+use Prim.Native.Nat.{◌+◌, ◌-◌, ◌≤◌}
 use native.Mathlib.Omega.{arith}
-use Rattle.feed.proofs.Laws.{steps_none, steps_on}
+use lib.ListN.{length, drop, length-drop}
+use lib.Seq.{length-take-le}
+use borrow.Rule.Slice.PartMut.{mid_len, same_len_mid}
+use Rattle.feed.proofs.Laws.{line_on, part_on}
 use Rattle.feed.proofs.pieces.feed.Goals as goal
 
-pub loop-fed-init : goal.loop-fed-init
-loop-fed-init c = (steps_none _ _, omega arith, omega arith, refl, refl, omega arith)
-
-pub overflow_sub-out : goal.overflow_sub-out
-overflow_sub-out c = c.loop-fed.invariant.2
-
-pub one_line-fed-requires : goal.one_line-fed-requires
-one_line-fed-requires c = (c.loop-fed-test.true, omega (arith, c.loop-fed.invariant.2, c.if-out-fed-ge-LINE.true))
-
-pub loop-fed-smaller : goal.loop-fed-smaller
-loop-fed-smaller c = omega (arith, c.one_line-fed.ensures.2, c.one_line-fed.ensures.3)
+pub loop-fed-preserved-in-Line : goal.loop-fed-preserved-in-Line
+loop-fed-preserved-in-Line c =
+    let was = c.loop-fed.invariant in
+    let next = c.in-Line.next in
+    let left = length-take-le (length c.args.input.now - c.loop-fed.fed.taken) (drop c.loop-fed.fed.taken c.args.input.now)
+    (omega (arith, length-drop c.loop-fed.fed.taken c.args.input.now)) in
+    let inside : c.loop-fed.fed.taken + next ≤ length c.args.input.now = omega (arith, c.in-Line.ensures.2, left, was.taken) in
+    let some : 1 ≤ next = omega (arith, c.in-Line.ensures.1, left, c.loop-fed-test.true) in
+    let fits : c.loop-fed.fed.filled + 19 ≤ length c.loop-fed.out = omega (arith, c.if-out-fed-ge-LINE.true, was.filled) in
+    let mid = mid_len c.loop-fed.fed.filled (c.loop-fed.fed.filled + 19) c.loop-fed.out fits in
+    let room : length c.answer-fed.new.room ≡ 19 = omega (arith, c.answer-fed.auto.room, mid) in
+    record {
+      stands = line_on _ _ _ _ _ _ _ _ was.taken was.stands _ _ _ next _ inside fits room c.in-Line.ensures.0 c.answer-fed.ensures;
+      taken = inside;
+      filled = omega (arith, fits, same_len_mid c.loop-fed.fed.filled _ c.loop-fed.out _ c.answer-fed.auto.room);
+      few = omega (arith, was.few, some);
+    }
 
 pub loop-fed-preserved : goal.loop-fed-preserved
-loop-fed-preserved c = (
-  steps_on _ _ _ _ c.args.input.now _ _ c.loop-fed.invariant.1 c.one_line-fed.ensures.3 c.loop-fed.invariant.0
-      c.one_line-fed.ensures.0 c.one_line-fed.ensures.1,
-  c.one_line-fed.ensures.3,
-  omega (arith, c.one_line-fed.ensures.4, c.one_line-fed.auto.out),
-  c.one_line-fed.auto.memory ∙ c.loop-fed.invariant.3,
-  c.one_line-fed.auto.out ∙ c.loop-fed.invariant.4,
-  omega (arith, c.loop-fed.invariant.5, c.one_line-fed.ensures.2, c.one_line-fed.ensures.5),
-)
-
-pub shape_of-memory-else-out-fed-ge-LINE : goal.shape_of-memory-else-out-fed-ge-LINE
-shape_of-memory-else-out-fed-ge-LINE c = c.loop-fed.invariant.3
-
-pub shape_of-out-else-out-fed-ge-LINE : goal.shape_of-out-else-out-fed-ge-LINE
-shape_of-out-else-out-fed-ge-LINE c = c.loop-fed.invariant.4
-
-pub returns-else-out-fed-ge-LINE : goal.returns-else-out-fed-ge-LINE
-returns-else-out-fed-ge-LINE c = (
-  c.loop-fed.invariant.0,
-  c.loop-fed.invariant.1,
-  omega (arith, c.loop-fed.invariant.2, c.loop-fed.invariant.4),
-  λ h. omega (arith, c.loop-fed.invariant.2, c.loop-fed.invariant.4, c.if-out-fed-ge-LINE.false),
-  c.loop-fed.invariant.5,
-)
-
-pub shape_of-memory-after-loop-fed : goal.shape_of-memory-after-loop-fed
-shape_of-memory-after-loop-fed c = c.loop-fed.invariant.3
-
-pub shape_of-out-after-loop-fed : goal.shape_of-out-after-loop-fed
-shape_of-out-after-loop-fed c = c.loop-fed.invariant.4
-
-pub returns-after-loop-fed : goal.returns-after-loop-fed
-returns-after-loop-fed c = (
-  c.loop-fed.invariant.0,
-  c.loop-fed.invariant.1,
-  omega (arith, c.loop-fed.invariant.2, c.loop-fed.invariant.4),
-  λ h. absurd (omega (arith, h, c.loop-fed-test.false)),
-  c.loop-fed.invariant.5,
-)
+loop-fed-preserved c = record {
+  stands = part_on _ _ _ _ _ _ _ _ c.loop-fed.invariant.taken c.loop-fed.invariant.stands c.in-Part.line c.in-Part.ensures.0;
+  taken = omega arith;
+  filled = c.loop-fed.invariant.filled;
+  few = omega (arith, c.loop-fed.invariant.few, c.loop-fed.invariant.taken);
+}

@@ -8,10 +8,12 @@ use Rattle.feed.specs.Feeding.{standing, stands, steps}
 use Rattle.feed.proofs.pieces.feed.Given as goal
 
 abbrev pub invariant-loop-fed : goal.invariant-loop-fed
-invariant-loop-fed l =
-    (stands l.fed l.memory l.out ≡ steps (places_of l.kind) (standing l.initial.fed.trace l.initial.memory []) (take l.fed.taken l.input))
-    × (l.fed.taken ≤ length l.input) × (l.fed.filled ≤ length l.out)
-    × (length l.memory ≡ length l.initial.memory) × (length l.out ≡ length l.initial.out) × (l.fed.filled ≤ 19 * l.fed.taken)
+invariant-loop-fed l = record {
+  stands : stands l.fed l.memory l.out ≡ steps (places_of l.kind) (standing l.initial.fed.trace l.initial.memory []) (take l.fed.taken l.input);
+  taken : l.fed.taken ≤ length l.input;
+  filled : l.fed.filled ≤ length l.out;
+  few : l.fed.filled ≤ 19 * l.fed.taken;
+}
 
 abbrev pub decreases-loop-fed : goal.decreases-loop-fed
 decreases-loop-fed l = length l.input - l.fed.taken

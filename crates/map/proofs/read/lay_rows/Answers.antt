@@ -1,44 +1,53 @@
 -- `map::read::lay_rows` meets its contract; Invariants.antt says what its loop keeps.
-use mathlib.Core.Path.{◌≡◌, refl, sym, ◌∙◌}
-use mathlib.Core.List.{List}
-use Prim.Native.Nat.{ℕ, ◌+◌, ◌≤◌}
+use mathlib.Core.Path.{◌≡◌, refl, sym, ap, ◌∙◌}
+use Prim.Native.Nat.{◌+◌, ◌-◌, ◌*◌}
 use native.Mathlib.Omega.{arith}
-use lib.ListN.{length, take, drop, length-set}
-use Rattle.map.specs.declared.rows.Row.{Row}
-use Rattle.map.specs.declared.rows.Line.TheVariants.{Good}
+use borrow.Rule.Slice.PartMut.{same_len_mid}
+use lib.ListN.{length-drop}
 use Rattle.map.specs.Reading.{row_in}
-use Rattle.map.proofs.RowLaws.{row_inside}
+use Rattle.map.proofs.Reader.AllLines.{chunk, row_chunk}
 use Rattle.map.proofs.Reader.Laid.{laying_start, laying_bad, laying_on, laying_end}
 use Rattle.map.proofs.read.lay_rows.Goals as goal
 
--- a line that is a row ends inside the bytes
-inside : (bs : List ℕ) (i : ℕ) {r : Row} → Good r ≡ row_in (take 19 (drop i bs)) → i + 19 ≤ length bs
-inside bs i e = row_inside bs i _ e
-
 pub loop-k-init : goal.loop-k-init
-loop-k-init c = (laying_start _ _ _, omega arith, omega arith, refl)
+loop-k-init c =
+    let first = c.enumerate-k-items.ensures in
+    let all = c.chunks.ensures in
+    rw (c.into_iter-k-iterator.ensures.into_iter_gives, first.source, first.count, all.rest, all.size)
+    (record { laid = laying_start c.args.lines.now c.args.room.now; whole = omega arith; size = refl; kept = refl })
 
 pub returns-in_default : goal.returns-in_default
-returns-in_default c = sym (c.loop-k.invariant.0 ∙ laying_bad _ _ _ _ _ (sym c.in_default.is ∙ c.line_at-line.ensures))
+returns-in_default c =
+    let here = c.loop-k.invariant in
+    let turn = chunk _ c.in-Some.line.now c.next.new.self.iter.rest.now _ here.size c.in-Some.ensures.steps.0.1 in
+    sym (here.laid ∙ laying_bad _ _ _ _ (c.in_default.ensures ∙ ap row_in turn.is))
 
-pub bounds-room-k-in-loop-k : goal.bounds-room-k-in-loop-k
-bounds-room-k-in-loop-k c = simp length-set (omega arith)
-
-pub bounds-room-k-in-loop-k-2 : goal.bounds-room-k-in-loop-k-2
-bounds-room-k-in-loop-k-2 c = simp length-set (omega arith)
-
-pub overflow_add-i : goal.overflow_add-i
-overflow_add-i c = omega (arith, inside c.args.lines.now c.loop-k.i c.in-Good.ensures)
+pub slice_bounds-copy_from_slice-end : goal.slice_bounds-copy_from_slice-end
+slice_bounds-copy_from_slice-end c =
+    let here = c.loop-k.invariant in
+    let steps = c.in-Some.ensures.steps in
+    let turn = row_chunk _ c.in-Some.line.now c.next.new.self.iter.rest.now _ here.size steps.0.1 _ c.in-Some-read_row.ensures in
+    omega (arith, turn.whole, steps.1)
 
 pub loop-k-preserved : goal.loop-k-preserved
-loop-k-preserved c = (
-  c.loop-k.invariant.0
-      ∙ laying_on _ c.args.lines.now c.loop-k.room _ _ _ c.loop-k-test.true
-      (omega (arith, c.requires, c.loop-k.invariant.3)) c.in-Good.ensures,
-  inside c.args.lines.now c.loop-k.i c.in-Good.ensures,
-  omega arith,
-  simp length-set c.loop-k.invariant.3,
-)
+loop-k-preserved c =
+    let here = c.loop-k.invariant in
+    let steps = c.in-Some.ensures.steps in
+    let turn = row_chunk _ c.in-Some.line.now c.next.new.self.iter.rest.now _ here.size steps.0.1 _ c.in-Some-read_row.ensures in
+    let w : c.in-Some.k * 3 + 3 - c.in-Some.k * 3 ≡ 3 = omega arith in
+    let kept = same_len_mid _ _ c.loop-k.room c.copy_from_slice.new.self c.copy_from_slice.auto.self in
+    rw (steps.2, turn.left)
+    (record {
+      laid = here.laid
+          ∙ laying_on _ _ _ _ _ _ _ _ (omega arith) (omega (arith, turn.whole)) turn.row (omega (arith, steps.1)) w
+          (rw (c.from-number.ensures, c.from.ensures) at c.copy_from_slice.ensures.after);
+      whole = simp length-drop (omega arith);
+      size = steps.0.0 ∙ here.size;
+      kept = kept ∙ here.kept;
+    })
 
 pub returns : goal.returns
-returns c = sym (c.loop-k.invariant.0 ∙ laying_end _ _ _ _ _ c.loop-k-test.false)
+returns c =
+    let here = c.loop-k.invariant in
+    let none = c.in-None.ensures.steps.0.1.0 in
+    sym (here.laid ∙ laying_end _ _ _ _ none)

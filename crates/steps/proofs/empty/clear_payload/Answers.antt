@@ -1,32 +1,30 @@
 -- `steps::empty::clear_payload` meets its contract; Invariants.antt says what its loop keeps.
-use Rattle.std.proofs.Common.{sym, refl, ◌∙◌, arith, length-set}
-use Rattle.steps.proofs.Clears.{cleared_turn, cleared_end, emptied_start, emptied_past}
+use Rattle.std.proofs.Common.{◌+◌, sym, ◌∙◌, arith}
+use Rattle.steps.proofs.Clears.{emptied_none, emptied_past, emptied_start, part_long, part_turn, part_end}
 use Rattle.steps.proofs.empty.clear_payload.Goals as goal
+use Rattle.steps.proofs.empty.clear_payload.Goals.{then-n-eq0-via-then-n-eq0, then-n-eq0-via-else-n-eq0+then-heap-w}
 
-pub returns-then-heap-w : goal.returns-then-heap-w
-returns-then-heap-w c = sym (emptied_past _ _ _ c.if-heap-w.true)
+pub returns-then-n-eq0 : goal.returns-then-n-eq0
+returns-then-n-eq0 c =
+    elim c.then-n-eq0.branch [
+      | then-n-eq0-via-then-n-eq0 w ↦ sym (emptied_none _ _ _ w.if-n-eq0.true)
+      | then-n-eq0-via-else-n-eq0+then-heap-w w ↦ sym (emptied_past _ _ _ w.if-heap-w.true)
+    ]
 
-pub loop-i-init : goal.loop-i-init
-loop-i-init c = (emptied_start _ _ _, refl, c.if-heap-w.false, omega (arith, c.smaller.ensures))
+pub loop-word-init : goal.loop-word-init
+loop-word-init c = emptied_start _ _ _ _
 
-pub bounds-heap-i : goal.bounds-heap-i
-bounds-heap-i c = omega (arith, c.loop-i.invariant.1, c.loop-i.invariant.2, c.loop-i.invariant.3, c.loop-i-test.true)
-
-pub loop-i-smaller : goal.loop-i-smaller
-loop-i-smaller c = omega arith
-
-pub loop-i-preserved : goal.loop-i-preserved
-loop-i-preserved c = (
-  c.loop-i.invariant.0 ∙ cleared_turn _ _ _ (omega (arith, c.loop-i.invariant.3, c.loop-i-test.true)),
-  length-set c.loop-i.heap c.loop-i.i 0 ∙ c.loop-i.invariant.1,
-  c.loop-i.invariant.2,
-  c.loop-i.invariant.3,
-)
-
-pub shape_of-heap : goal.shape_of-heap
-shape_of-heap c = c.loop-i.invariant.1
+pub loop-word-preserved : goal.loop-word-preserved
+loop-word-preserved c =
+    let long = part_long _ _ _ _ c.if-heap-w.false c.min.ensures in
+    let inside = c.loop-word-test.true in
+    c.loop-word.invariant
+    ∙ part_turn _ _ _ _ _ _ c.if-heap-w.false (omega (arith, c.loop-word.auto.word-items, inside)) (omega (arith, long, inside, c.min.ensures))
 
 pub returns : goal.returns
 returns c =
-    let kept = c.loop-i.invariant in
-    sym (kept.0 ∙ cleared_end _ _ _ _ _ (omega (arith, kept.1, kept.2)) (omega (arith, kept.1, kept.3)) c.loop-i-test.false)
+    let long = part_long _ _ _ _ c.if-heap-w.false c.min.ensures in
+    sym
+    (c.loop-word.invariant
+    ∙ part_end _ _ _ _ _ (c.args.hdr.0 + c.min.result) _ c.if-heap-w.false c.loop-word.auto.word-items
+    (omega (arith, c.min.ensures)) (omega (arith, long, c.loop-word-test.false)))

@@ -1,52 +1,59 @@
 -- `steps::live::used_length` meets its contract; Invariants.antt says what its loop keeps.
-use Rattle.std.proofs.Common.{true, false, sym, refl, ◌∙◌, arith}
-use Rattle.steps.proofs.Tiling.{used_out, used_guard, used_here, used_inside, used_on}
+use Rattle.std.proofs.Common.{◌+◌, ◌-◌, length, sym, ap, ◌∙◌, arith, true, false}
+use Rattle.words.specs.Tags.{at, length_of, freeᵇ}
+use Rattle.rules.specs.Rules.Place.{used_walk}
+use Rattle.steps.proofs.Tiling.{used_guard, used_here, used_inside, used_on, fueled, none_used, some_used}
+use Rattle.steps.proofs.live.used_length.Goals.{then-n-eq0-via-then-n-eq0, then-n-eq0-via-else-n-eq0+then-b-e}
+use Rattle.steps.proofs.live.used_length.Goals.{then-n-eq0-2-via-then-n-eq0-2, then-n-eq0-2-via-else-n-eq0-2+then-is_this_free}
 use Rattle.steps.proofs.live.used_length.Goals as goal
 
-pub loop-fuel-init : goal.loop-fuel-init
-loop-fuel-init c = (refl, omega arith)
+pub loop-e-init : goal.loop-e-init
+loop-e-init c =
+    (length c.args.heap.now, ap (λ b. used_walk (at c.args.heap.now) (length c.args.heap.now) 0 b) (omega arith), omega arith, omega arith)
 
 pub returns-then-n-eq0 : goal.returns-then-n-eq0
 returns-then-n-eq0 c =
-    sym
-    (c.loop-fuel.invariant.0 ∙ used_guard _ _ _ c.get_hdr_chunk_size-n.ensures _ _
-    c.loop-fuel-test.true c.if-n-eq0.true)
+    let (fuel, same, _, _) = c.loop-e.invariant in
+    let header = c.get_hdr_chunk_size-n.ensures ∙ ap (λ w. length_of (at c.args.heap.now w)) c.from.ensures in
+    none_used _
+    (same ∙ elim c.then-n-eq0.branch [
+      | then-n-eq0-via-then-n-eq0 w ↦ used_guard _ _ _ header fuel _ w.if-n-eq0.true
+      | then-n-eq0-via-else-n-eq0+then-b-e w ↦ used_inside _ _ _ header fuel _ w.if-n-eq0.false (omega (arith, c.loop-e-test.true)) w.if-b-e.true
+    ])
 
-pub returns-then-free : goal.returns-then-free
-returns-then-free c =
-    sym
-    (c.loop-fuel.invariant.0 ∙ used_here _ _ _ c.get_hdr_chunk_size-n.ensures _ _ true
-    (sym c.if-free.true ∙ c.is_this_free-free.ensures)
-    c.loop-fuel-test.true c.if-n-eq0.false c.if-left-eq0.true)
+pub loop-e-preserved : goal.loop-e-preserved
+loop-e-preserved c =
+    let (fuel, same, enough, _) = c.loop-e.invariant in
+    let header = c.get_hdr_chunk_size-n.ensures ∙ ap (λ w. length_of (at c.args.heap.now w)) c.from.ensures in
+    let some = fueled _ _ _ fuel header c.if-n-eq0.false enough in (
+      fuel - 1,
+      same
+          ∙ used_on _ _ _ header fuel _ some c.if-n-eq0.false (omega (arith, c.loop-e-test.true)) c.if-b-e.false
+          ∙ ap (used_walk (at c.args.heap.now) (fuel - 1) (c.loop-e.e + c.get_hdr_chunk_size-n.result)) (omega arith),
+      omega (arith, header, enough, some, c.if-n-eq0.false),
+      omega (arith, c.if-b-e.false, c.loop-e-test.true),
+    )
 
-pub returns-else-free : goal.returns-else-free
-returns-else-free c =
-    sym
-    (c.loop-fuel.invariant.0 ∙ used_here _ _ _ c.get_hdr_chunk_size-n.ensures _ _ false
-    (sym c.if-free.false ∙ c.is_this_free-free.ensures)
-    c.loop-fuel-test.true c.if-n-eq0.false c.if-left-eq0.true)
-
-pub returns-then-left-n : goal.returns-then-left-n
-returns-then-left-n c =
-    sym
-    (c.loop-fuel.invariant.0 ∙ used_inside _ _ _ c.get_hdr_chunk_size-n.ensures _ _
-    c.loop-fuel-test.true c.if-n-eq0.false c.if-left-eq0.false c.if-left-n.true)
-
-pub overflow_add-e : goal.overflow_add-e
-overflow_add-e c = omega arith
-
-pub overflow_sub-fuel : goal.overflow_sub-fuel
-overflow_sub-fuel c = omega arith
-
-pub loop-fuel-smaller : goal.loop-fuel-smaller
-loop-fuel-smaller c = omega arith
-
-pub loop-fuel-preserved : goal.loop-fuel-preserved
-loop-fuel-preserved c = (
-  c.loop-fuel.invariant.0 ∙ used_on _ _ _ c.get_hdr_chunk_size-n.ensures _ _
-      c.loop-fuel-test.true c.if-n-eq0.false c.if-left-eq0.false c.if-left-n.false,
-  omega arith,
-)
+pub returns-then-n-eq0-2 : goal.returns-then-n-eq0-2
+returns-then-n-eq0-2 c =
+    let (fuel, same, enough, _) = c.loop-e.invariant in
+    let header = c.get_hdr_chunk_size-n-2.ensures ∙ ap (λ w. length_of (at c.args.heap.now w)) c.from-hdr.ensures in
+    none_used _
+    (same ∙ elim c.then-n-eq0-2.branch [
+      | then-n-eq0-2-via-then-n-eq0-2 w ↦ used_guard _ _ _ header fuel _ w.if-n-eq0-2.true
+      | then-n-eq0-2-via-else-n-eq0-2+then-is_this_free w ↦
+          used_here _ _ _ header fuel _ true
+          (sym w.if-is_this_free.true ∙ w.is_this_free.ensures ∙ ap (λ w. freeᵇ (at c.args.heap.now w)) c.from-hdr.ensures)
+          (fueled _ _ _ fuel header w.if-n-eq0-2.false enough) w.if-n-eq0-2.false (omega (arith, c.loop-e-test.false))
+    ])
 
 pub returns : goal.returns
-returns c = sym (c.loop-fuel.invariant.0 ∙ used_out _ _ _ _ c.loop-fuel-test.false)
+returns c =
+    let (fuel, same, enough, _) = c.loop-e.invariant in
+    let header = c.get_hdr_chunk_size-n-2.ensures ∙ ap (λ w. length_of (at c.args.heap.now w)) c.from-hdr.ensures in
+    some_used _ _
+    (same
+    ∙ used_here _ _ _ header fuel _ false
+    (sym c.if-is_this_free.false ∙ c.is_this_free.ensures ∙ ap (λ w. freeᵇ (at c.args.heap.now w)) c.from-hdr.ensures)
+    (fueled _ _ _ fuel header c.if-n-eq0-2.false enough) c.if-n-eq0-2.false (omega (arith, c.loop-e-test.false)))
+    c.if-n-eq0-2.false

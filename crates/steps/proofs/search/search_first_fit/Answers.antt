@@ -1,39 +1,25 @@
 -- `steps::search::search_first_fit` meets its contract; Invariants.antt says what its loop keeps.
 use Rattle.std.proofs.Common.{sym, ◌∙◌, arith}
-use Rattle.steps.proofs.Walks.{walk_bound, fit_out, fit_hit, fit_miss, fit_lost}
+use Rattle.steps.proofs.Walks.{walk_bound, fit_out, fit_found, fit_none, fit_lost, told_err}
 use Rattle.steps.proofs.search.search_first_fit.Goals as goal
 
-pub loop-class-init : goal.loop-class-init
-loop-class-init c = (rw c.start_index-class.ensures, omega arith, omega arith)
+pub returns-in_err-found : goal.returns-in_err-found
+returns-in_err-found c =
+    let endless = c.in_err-found.ensures in
+    told_err _ c.from_residual.ensures.0 ∙ sym (c.loop-class.invariant.same ∙ fit_lost _ _ _ _ (omega arith) (sym endless))
 
-pub walk_list-found-requires : goal.walk_list-found-requires
-walk_list-found-requires c = omega arith
-
-pub returns-in-At : goal.returns-in-At
-returns-in-At c =
-    sym
-    (c.loop-class.invariant.0 ∙ fit_hit _ _ _ _ _ _ (omega arith)
-    (sym c.in-At.ensures))
-
-pub returns-in-Lost : goal.returns-in-Lost
-returns-in-Lost c =
-    sym
-    (c.loop-class.invariant.0 ∙ fit_lost _ _ _ _ (omega arith)
-    (sym c.in-Lost.ensures))
-
-pub overflow_add-class : goal.overflow_add-class
-overflow_add-class c = omega arith
-
-pub loop-class-smaller : goal.loop-class-smaller
-loop-class-smaller c = omega arith
+pub returns-then-is_some : goal.returns-then-is_some
+returns-then-is_some c =
+    let found = c.in_ok-found.ensures in
+    sym (c.loop-class.invariant.same ∙ fit_found _ _ _ _ _ _ (omega arith) (sym c.is_some.ensures ∙ c.if-is_some.true) (sym found))
 
 pub loop-class-preserved : goal.loop-class-preserved
 loop-class-preserved c =
-    let w = sym c.in-Nothing.ensures in (
-      c.loop-class.invariant.0 ∙ fit_miss _ _ _ _ _ _ (omega arith) w,
-      walk_bound _ _ _ _ _ _ _ c.loop-class.invariant.1 w,
-      omega arith,
-    )
+    let missed = c.in_ok-found.ensures in
+    record {
+      same = c.loop-class.invariant.same ∙ fit_none _ _ _ _ _ _ _ (omega arith) (sym c.is_some.ensures ∙ c.if-is_some.false) (sym missed);
+      within = walk_bound _ _ _ _ _ _ _ _ c.loop-class.invariant.within missed;
+    }
 
 pub returns : goal.returns
-returns c = sym (c.loop-class.invariant.0 ∙ fit_out _ _ _ _ (omega arith))
+returns c = sym (c.loop-class.invariant.same ∙ fit_out _ _ _ _ (omega arith))

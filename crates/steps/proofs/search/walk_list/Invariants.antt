@@ -6,10 +6,10 @@ use Rattle.steps.specs.Found.{walk_in}
 use Rattle.steps.proofs.Walks.{walk_from}
 use Rattle.steps.proofs.search.walk_list.Given as goal
 
-abbrev pub invariant-loop-l : goal.invariant-loop-l
-invariant-loop-l l =
+abbrev pub invariant-loop-next : goal.invariant-loop-next
+invariant-loop-next l =
     (walk_in (numbers l.next) l.heap l.size l.limit l.class l.compared ≡ walk_from (numbers l.next) l.heap l.size l.limit l.class l.l.0 l.k)
     × (l.k ≤ l.limit)
 
-abbrev pub decreases-loop-l : goal.decreases-loop-l
-decreases-loop-l l = l.limit - l.k
+abbrev pub decreases-loop-next : goal.decreases-loop-next
+decreases-loop-next l = l.limit - l.k

@@ -3,11 +3,5 @@ use Rattle.std.proofs.Common.{arith}
 use Rattle.words.proofs.Laws.Sizes.{class_by_zeros_lem}
 use Rattle.words.proofs.sizes.chunk_size_to_list_index.Goals as goal
 
-pub returns-then-zeros-ge27 : goal.returns-then-zeros-ge27
-returns-then-zeros-ge27 c = omega (arith, class_by_zeros_lem c.args.size (omega arith))
-
-pub returns-then-doublings-ge5 : goal.returns-then-doublings-ge5
-returns-then-doublings-ge5 c = omega (arith, class_by_zeros_lem c.args.size (omega arith))
-
-pub returns-else-doublings-ge5 : goal.returns-else-doublings-ge5
-returns-else-doublings-ge5 c = omega (arith, class_by_zeros_lem c.args.size (omega arith))
+pub returns : goal.returns
+returns c = omega (arith, class_by_zeros_lem c.args.size (omega arith))

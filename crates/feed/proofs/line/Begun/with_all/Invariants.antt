@@ -1,12 +1,8 @@
--- `feed::line::Begun::with_all` meets its contract. Invariant: the bytes from k on are still to be kept. Measure: how many they are.
+-- `feed::line::Begun::with_all` meets its contract. Invariant: the bytes that are left are still to be kept.
 use mathlib.Core.Path.{◌≡◌}
-use Prim.Native.Nat.{◌-◌}
-use lib.ListN.{length, drop}
+use lib.ListN.{drop}
 use Rattle.feed.specs.Reading.{text_of, keeps}
 use Rattle.feed.proofs.line.Begun.with_all.Given as goal
 
-abbrev pub invariant-loop-k : goal.invariant-loop-k
-invariant-loop-k l = (keeps (text_of l.initial.next) l.part ≡ keeps (text_of l.next) (drop l.k l.part)) × (length l.next.bytes ≡ 11)
-
-abbrev pub decreases-loop-k : goal.decreases-loop-k
-decreases-loop-k l = length l.part - l.k
+abbrev pub invariant-loop-byte : goal.invariant-loop-byte
+invariant-loop-byte l = keeps (text_of l.initial.next) l.part ≡ keeps (text_of l.next) (drop l.byte-index l.part)

@@ -10,6 +10,5 @@ bounds-self-class c = omega (arith, class_below c.args.m, c.chunk_size_to_list_i
 
 pub returns : goal.returns
 returns c =
-    free_noted_by c.args.self c.free_listed-rec.result _ _ _ _ _ _ _ _ _ _ _ _ _ _ c.chunk_size_to_list_index-class.ensures refl
-    (omega (arith, c.requires.0)) c.requires.1 c.note_tags-a.auto.log c.note_link-b.auto.log
-    c.note_tags-a.ensures c.note_link-b.ensures c.note-d.ensures c.free_listed-rec.ensures
+    free_noted_by c.args.self c.free_listed.result _ _ _ _ _ _ _ _ _ _ c.chunk_size_to_list_index-class.ensures refl
+    (omega (arith, c.requires.0)) c.requires.1 c.note_tags.ensures c.note_link.ensures c.note.ensures c.free_listed.ensures

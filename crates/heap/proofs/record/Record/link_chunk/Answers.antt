@@ -5,6 +5,6 @@ use Rattle.heap.proofs.record.Record.link_chunk.Goals as goal
 pub returns : goal.returns
 returns c =
     link_by c.args.self _ _ c.args.heap.now _ _ _ _ _ _ c.requires.0 c.requires.1
-    (next_sentinel c.args.self c.args.heap.now c.args.class c.requires.0) c.set_sentinel_next-a.ensures
-    c.set_sentinel_prev-b.ensures c.set_chunk_prev.ensures c.set_next_field.ensures
-    c.set_prev_field.ensures
+    (next_sentinel c.args.self c.args.heap.now c.args.class c.requires.0) c.set_sentinel.ensures
+    c.set_sentinel-2.ensures c.set_chunk_link.ensures c.set_field.ensures
+    c.set_field-2.ensures

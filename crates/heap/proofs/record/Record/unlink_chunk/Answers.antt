@@ -4,6 +4,5 @@ use Rattle.heap.proofs.record.Record.unlink_chunk.Goals as goal
 
 pub returns : goal.returns
 returns c =
-    unlink_by _ _ _ _ _ _ _ _ _ c.requires c.hdr_to_prev_hdr-prev.ensures c.hdr_to_next_hdr-next.ensures
-    c.set_sentinel_next-a.ensures c.set_chunk_next.ensures
-    c.set_sentinel_prev-b.ensures c.set_chunk_prev.ensures
+    unlink_by c.args.self _ _ _ _ _ _ _ _ c.requires c.hdr_to_linked_hdr-prev.ensures c.hdr_to_linked_hdr-next.ensures
+    c.set_sentinel.ensures c.set_chunk_link.ensures c.set_sentinel-2.ensures c.set_chunk_link-2.ensures
