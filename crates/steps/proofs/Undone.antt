@@ -1,11 +1,11 @@
 -- LAWS OF NOTES (specs/Undone.antt): what is noted before it is overwritten can be put back, on any words. Assumes nothing.
---     undone_none, undone_turn            putting notes back: none left, and one more;  put_back_by, _all: as many as there are
+--     undone_none, undone_turn, _put      putting notes back: none left, and one more;  put_back_by, _all: as many as there are
 --     note_past, _full, _one, _named      taking notes: past the end, in a full log, one
 --     notes_more, notes_tags              more after those
 --     Changed, changes_none, .._set       words that differ at some places at most, and the stores that keep to them
 --     undo_by                             THE LAW: a step that stores at the noted places alone is undone by the notes
 --     undo_none, undo_on, undo_whole      no step; a step after a step; all notes of a log put back
---     undo_within, room_within, room_on   looser bounds; the room that a step leaves
+--     undo_within, room_within, room_from, room_on   looser bounds; the room from one place, and that which a step leaves
 use Rattle.std.proofs.Common.{◌≡◌, ℕ, zero, suc, ◌+◌, ◌-◌, ◌*◌, ◌/◌, ◌%◌, ◌^◌, ◌<◌, ◌≤◌, min, Bool, true, false, eqb, ltb, List, [], ◌∷◌, ◌++◌, length, get_or, set, sym, refl, ap, ◌∙◌, arith, length-append, length-set, get_or-set_other, get_or-set_same, ext_get_or, ltb-false, ltb-true, eqb-true}
 use mathlib.Core.List.Memᴰ
 use mathlib.Core.List.{Memᴰ}
@@ -31,6 +31,11 @@ undone_turn log us zero j e = absurd (omega arith)
 undone_turn log us (suc k) j e =
     let o : k ≡ j = omega arith in
     rw o
+
+-- the same of words vs that a store made, which took the note in place i, if that is place j
+pub undone_put : (log us vs : List ℕ) (k j i : ℕ) → k ≡ j + 1 → i ≡ j → vs ≡ set us (get_or log (2 * i) 0) (get_or log (2 * i + 1) 0)
+    → undone log k us ≡ undone log j vs
+undone_put log us vs k j i e at_j put = undone_turn log us k j e ∙ rw (sym at_j) (ap (undone log i) (sym put))
 
 -- as many as the log has room for; all of them, where it has
 pub put_back_by : (log us vs : List ℕ) (k n : ℕ) → n ≡ min k (length log / 2) → undone log n us ≡ vs → vs ≡ put_back log k us
@@ -113,6 +118,10 @@ note_at ws log after k r i j a e = rw e at a
 -- room for m notes is room for fewer
 pub room_within : (m n : ℕ) (ws log : List ℕ) (k : ℕ) → n ≤ m → Room ws log k m → Room ws log k n
 room_within m n ws log k l h = let f = h.fits in record { named = h.named; fits = omega arith }
+
+-- and from the same place, however it is said
+pub room_from : (n : ℕ) (ws log : List ℕ) (k r : ℕ) → r ≡ k → Room ws log k n → Room ws log r n
+room_from n ws log k r e h = let f = h.fits in record { named = h.named; fits = omega arith }
 
 -- room for the next, after notes
 pub room_next : (m n : ℕ) (ws ps log mid : List ℕ) (k r : ℕ) → length ps ≡ m → Room ws log k (m + n) → length mid ≡ length log → Notes ws ps log k mid r

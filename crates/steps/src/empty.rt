@@ -10,11 +10,11 @@ pub fn clear_payload(heap: &mut [u32], hdr: WordIndex, len: u32)
 {
     let w = hdr.0;
     let n = (len / 4) as usize;
-    if n == 0 || heap.len() <= w {
+    if heap.len() <= w {
         return;
     }
     let end = w + n.min(heap.len() - w);
-    for word in &mut heap[w + 1..end] {
-        *word = 0;
+    for i in w + 1..end {
+        heap[i] = 0;
     }
 }

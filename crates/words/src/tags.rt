@@ -17,7 +17,8 @@ use super::names::WordIndex;
 pub fn word(heap: &[u32], i: WordIndex) -> u32
     ensures { result ≡ at heap.now i.0 }
 {
-    heap.get(i.0).copied().unwrap_or(0)
+    let k = i.0;
+    if k < heap.len() { heap[k] } else { 0 }
 }
 
 // Stores a word; past the end nothing.

@@ -7,4 +7,4 @@ use Rattle.cache.proofs.choice.Given as goal
 
 abbrev pub invariant-loop-k : goal.invariant-loop-k
 invariant-loop-k l =
-    choice_of (λ x. length_of (at l.heap (x - 6))) l.z (numbers l.fn.c) ≡ l.k + choice_of (λ x. length_of (at l.heap (x - 6))) l.z (drop l.k (numbers l.fn.c))
+    choice_of (λ x. length_of (at l.heap (x - 6))) l.z (numbers l.c) ≡ l.k + choice_of (λ x. length_of (at l.heap (x - 6))) l.z (drop l.k (numbers l.c))

@@ -1,18 +1,18 @@
--- `cache::used_places` meets its contract: it counts the links before the first link 0.
-use Rattle.std.proofs.Common.{◌∙◌, not, rules, tests}
-use Rattle.std.specs.Prelude.{◌==◌}
-use Rattle.std.proofs.lemmas.Iterator.{YieldsList-from_slice}
-use Rattle.std.proofs.lemmas.Iterator.Consumers.{count_from_yields_List}
-use Rattle.std.proofs.lemmas.Iterator.Search.{YieldsList-from_take_while}
-use Rattle.std.proofs.lemmas.List.Folds.{length-prefix_len}
-use Rattle.words.specs.declared.names.Link.{Link}
-use Rattle.cache.proofs.Four.{used_by}
+-- `cache::used_places` meets its contract; Invariants.antt says what its loop keeps.
+use Rattle.std.proofs.Common.{◌∙◌, sym, arith, eqb-true}
+use borrow.Author.Tests.{eqb-false}
+use Rattle.cache.proofs.Four.{places_here, places_on, places_all}
 use Rattle.cache.proofs.used_places.Goals as goal
 
+pub returns-then-eq : goal.returns-then-eq
+returns-then-eq c =
+    let unused = eqb-true _ _ (sym c.eq.ensures ∙ c.if-eq.true) in
+    places_here c.args.c _ (omega (arith, c.well_formed)) c.loop-k.invariant c.loop-k-test.true unused
+
+pub loop-k-preserved : goal.loop-k-preserved
+loop-k-preserved c =
+    let some = eqb-false _ _ (sym c.eq.ensures ∙ c.if-eq.false) in
+    places_on c.args.c _ (omega (arith, c.well_formed)) c.loop-k.invariant c.loop-k-test.true some
+
 pub returns : goal.returns
-returns c =
-    count_from_yields_List c.take_while.result _ c.count.ensures.ran
-    (YieldsList-from_take_while _ (λ (l : Link). not (l.0 == 0)) (YieldsList-from_slice c.args.c cc) c.take_while.ensures.closure c.take_while.ensures.done
-    (λ x b q k. search (rules, tests)))
-    ∙ length-prefix_len (λ (l : Link). not (l.0 == 0)) c.args.c
-    ∙ used_by c.args.c
+returns c = places_all c.args.c _ (omega (arith, c.well_formed)) c.loop-k.invariant (omega (arith, c.loop-k-test.false)) c.loop-k.auto.k-end

@@ -1,7 +1,6 @@
 -- `steps::undo::Log::put_back` meets its contract; Invariants.antt says what its loop keeps.
-use Rattle.std.proofs.Common.{◌≡◌, ◌+◌, ◌-◌, sym, ap, ◌∙◌, arith}
-use Rattle.steps.proofs.Undone.{undone_none, undone_turn, put_back_by}
-use Rattle.steps.specs.Undone.{undone}
+use Rattle.std.proofs.Common.{◌≡◌, ◌+◌, ◌-◌, ◌∙◌, arith}
+use Rattle.steps.proofs.Undone.{undone_none, undone_put, put_back_by}
 use Rattle.steps.proofs.undo.Log.put_back.Goals as goal
 
 pub loop-j-preserved : goal.loop-j-preserved
@@ -11,7 +10,7 @@ loop-j-preserved c =
     let one : j ≡ j - 1 + 1 = omega (arith, c.loop-j-test.true) in
     record {
       held = c.loop-j.invariant.held;
-      same = c.loop-j.invariant.same ∙ undone_turn log c.loop-j.heap j (j - 1) one ∙ ap (undone log (j - 1)) (sym c.put.ensures);
+      same = c.loop-j.invariant.same ∙ undone_put log c.loop-j.heap _ j (j - 1) _ one (omega arith) c.put.ensures;
     }
 
 pub returns : goal.returns

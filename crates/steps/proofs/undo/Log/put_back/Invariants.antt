@@ -1,5 +1,5 @@
 -- `steps::undo::Log::put_back` meets its contract. Invariant: undoing all n notes on the words at entry is undoing the first j on these. A turn keeps it by
--- `undone_turn`.
+-- `undone_put`.
 use Rattle.std.proofs.Common.{◌≡◌, ◌*◌, ◌≤◌, length}
 use Rattle.steps.specs.Undone.{undone}
 use Rattle.steps.proofs.undo.Log.put_back.Given as goal
