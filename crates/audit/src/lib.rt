@@ -1,9 +1,10 @@
 // The audit: whether a record and its words are sound (document 01, "Sound"), the test behind answer 5. It reads any record and any words.
 //
 // What it costs: the tiling is walked once with all tests, and once more, from the first free chunk on, with a single one; each class list is followed
-// once in both directions, and once more for each window of 2,048 words. An empty list costs two reads. The first walk waits for the words of the
-// cached chunks one after the other, with one test for each used chunk; their lengths are read after it. Besides the locals, the stack holds 128 bytes
-// of marks, whatever the length. Tiling, rings and windows are not inlined: each loop has the processor's registers to itself.
+// once in both directions, and once more for each window of 2,048 words. An empty list costs two reads. A record of another length than the words, as
+// one that was never made, is refused before a word is read. The first walk waits for the words of the cached chunks one after the other, with one test
+// for each used chunk; their lengths are read after it. Besides the locals, the stack holds 128 bytes of marks, whatever the length. Tiling, rings and
+// windows are not inlined: each loop has the processor's registers to itself.
 //
 //     ground    the words
 //     tiling    chunks, from one header to the next
@@ -78,17 +79,17 @@ fn front_right(l: Link, rest: &[Link]) -> bool
     ensures { result ≡ front_right l.0 (numbers rest.now) }
 {
     if l == cache::UNUSED {
-        return rest.first().map_or(true, |next| *next == cache::UNUSED);
+        return rest.is_empty() || rest[0] == cache::UNUSED;
     }
-    6 <= l.0 && !rest.contains(&l)
+    6 <= l.0 && !(0..rest.len()).any(|k| rest[k] == l)
 }
 
 // Whether the cached links are right by themselves: no unused place before a used one, chunks' links, all different, no more than there are places.
 fn links_right(c: [Link; 4], places: usize) -> bool
     ensures { result ≡ links_right places (numbers c) }
 {
-    for (i, l) in c.iter().enumerate() {
-        if !front_right(*l, &c[i + 1..]) {
+    for i in 0..c.len() {
+        if !front_right(c[i], &c[i + 1..]) {
             return false;
         }
     }
@@ -119,6 +120,9 @@ pub fn audit(
 {
     let cached = figures.cached;
     if !links_right(cached, places) || 65529 < heap.len() {
+        return false;
+    }
+    if figures.words as usize != heap.len() {
         return false;
     }
     let ground = Ground { words: heap };

@@ -31,6 +31,10 @@ returns-then-not-links_right c =
     (λ l. omega (arith, l.1, s.figures.most))
     c.then-not-links_right.either))
 
+pub returns-then-figures-heap : goal.returns-then-figures-heap
+returns-then-figures-heap c =
+    told _ _ c.args.figures _ (omega (arith, c.well_formed)) (omega (arith, c.well_formed)) (refused (λ s. c.if-figures-heap.true (sym s.figures.words)))
+
 pub returns-in_default : goal.returns-in_default
 returns-in_default c =
     let broken = tally_broken _ c.in_default.ensures.0 in

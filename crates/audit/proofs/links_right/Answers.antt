@@ -6,12 +6,15 @@ use Rattle.audit.proofs.Links.{right_stops, right_goes, right_ends}
 use Rattle.audit.proofs.links_right.Goals as goal
 
 pub loop-i-preserved : goal.loop-i-preserved
-loop-i-preserved c = right_goes _ _ _ (omega (arith, c.well_formed)) c.loop-i-test.true c.loop-i.invariant (sym c.if-not-front_right.ensures)
+loop-i-preserved c =
+    right_goes c.args.c c.loop-i.i _ (omega (arith, c.well_formed, c.loop-i-test.true)) c.loop-i.invariant (sym c.if-not-front_right.ensures)
+    (omega (arith, c.well_formed, c.loop-i-test.true))
 
 pub returns-then-not-front_right : goal.returns-then-not-front_right
 unfolding links_right
 returns-then-not-front_right c =
-    let wrong = right_stops c.args.c _ _ (omega (arith, c.well_formed)) c.loop-i-test.true c.loop-i.invariant (sym c.if-not-front_right.ensures) in
+    let wrong = right_stops c.args.c c.loop-i.i _ (omega (arith, c.well_formed, c.loop-i-test.true)) c.loop-i.invariant
+    (sym c.if-not-front_right.ensures) (omega (arith, c.well_formed, c.loop-i-test.true)) in
     rw wrong
 
 pub returns : goal.returns

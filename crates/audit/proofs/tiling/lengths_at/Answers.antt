@@ -1,10 +1,10 @@
--- `audit::tiling::lengths_at` meets its contract.
-use Rattle.std.proofs.Common.{rules, arith, tests}
-use Rattle.std.proofs.lemmas.Iterator.{YieldsList-from_slice}
-use Rattle.std.proofs.lemmas.Iterator.Adapters.{fits_from_length, at_most_from_yields_List}
+-- `audit::tiling::lengths_at` meets its contract: header by header, the lengths add up.
+use Rattle.std.proofs.Common.{arith}
+use Rattle.audit.proofs.Cached.{lengths_turn, lengths_end}
 use Rattle.audit.proofs.tiling.lengths_at.Goals as goal
 
-pub sum-requires-clause-fits : goal.sum-requires-clause-fits
-sum-requires-clause-fits c =
-    fits_from_length _ _ 4 _ (at_most_from_yields_List (YieldsList-from_slice c.args.ws (cc)) (omega (arith, c.well_formed)))
-    c.map.ensures.closure (omega arith) (λ x r q k. search (rules, tests))
+pub loop-k-preserved : goal.loop-k-preserved
+loop-k-preserved c = (lengths_turn _ _ _ _ _ c.loop-k.k c.loop-k.invariant.0 c.length_at.ensures (omega arith) (omega arith), omega arith)
+
+pub returns : goal.returns
+returns c = lengths_end _ _ _ c.loop-k.k c.loop-k.invariant.0 (omega (arith, c.well_formed))

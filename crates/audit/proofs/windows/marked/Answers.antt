@@ -6,8 +6,8 @@ use Rattle.audit.specs.Window.{markedᵇ, nibble}
 use Rattle.audit.proofs.windows.Marks.{past_unmarked}
 use Rattle.audit.proofs.windows.marked.Goals as goal
 
-pub returns-in_default : goal.returns-in_default
-returns-in_default c = grind (arith, common_steps, past_unmarked)
+pub returns-then-marks-i : goal.returns-then-marks-i
+returns-then-marks-i c = grind (arith, common_steps, past_unmarked)
 
 pub returns : goal.returns
 unfolding markedᵇ nibble pick
