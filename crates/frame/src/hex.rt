@@ -1,6 +1,7 @@
 // Hexadecimal: one digit, and a field of digits, as wide as the slice that is lent.
 //
 // Digits are 0–9 A–F, upper case both ways, the most significant first. Contracts cite specs/Hex.antt and specs/Field.antt.
+// Reading a field is inlined, so that it is compiled for the width that each caller lends.
 ghost use Rattle.std.specs.Prelude.{◌≡◌, ◌<◌, length};
 ghost use Rattle.frame.specs.Hex.{digit_in, byte_of, digits_of};
 ghost use Rattle.frame.specs.Field.{field_of};
@@ -28,6 +29,7 @@ fn byte_of(digit: u8) -> u8
 
 // Reads a field, whatever its width: its number, or none if a byte is not a digit or the number does not fit in 32 bits.
 #[tactic(auto, using(crate::proofs::Laws::Field::by_digit))]
+#[inline(always)]
 pub fn read_field(digits: &[u8]) -> Option<u32>
     ensures { result ≡ field_of digits.now }
 {

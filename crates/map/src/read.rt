@@ -60,12 +60,15 @@ fn lay_rows(lines: &[u8], room: &mut [u32])
             return;
         };
         let number = u32::from(u8::from(r.kind));
-        room[k * 3..k * 3 + 3].copy_from_slice(&[number, r.at, r.len]);
+        room[k * 3] = number;
+        room[k * 3 + 1] = r.at;
+        room[k * 3 + 2] = r.len;
     }
 }
 
 // Reads lines into the room, three words for each chunk, for a heap of this kind: 7 with the number of the first bad line, then 6 if the room is
 // too short.
+#[tactic(auto, using(crate::proofs::Reader::Laid::into_bad_line))]
 pub fn read_map(lines: &[u8], room: &mut [u32], kind: Kind) -> Result<usize, Refusal>
     ensures { told result room.new ≡ read_into (read_all 65529 (places_of kind) lines.now) room.old }
 {

@@ -2,15 +2,17 @@
 --     words_bad, words_on_lem, words_none, words_lines     the words of lines
 --     laying_start, laying_end, laying_bad, laying_on     words laid in a loop
 --     told_bad, told_rows     what the count of all lines tells
---     into_none, into_bad, into_refused, into_short, into_bytes, into_done     a map read into the room, as the answers have it
+--     into_none, into_bad, into_bad_line, into_refused, into_short, into_bytes, into_done     a map read into the room, as the answers have it
 use mathlib.Core.Path.{◌≡◌, refl, sym, ap, ◌∙◌}
-use mathlib.Core.List.{List, [], ◌∷◌, ◌++◌}
+use mathlib.Core.Bool.{Bool, false}
+use mathlib.Core.List.{List, [], ◌∷◌, ◌++◌, append_assoc}
 use Prim.Native.Nat.{ℕ, zero, suc, ◌+◌, ◌-◌, ◌*◌, ◌/◌, ◌^◌, ◌≤◌, ◌<◌}
 use native.Mathlib.Omega.{arith}
-use lib.ListN.{length, take, drop, length-take}
-use lib.Seq.{drop_at}
-use borrow.Rule.Slice.PartMut.{put_mid}
+use lib.Dec.{eqb}
+use lib.ListN.{length, take, drop, set, length-take}
+use lib.Seq.{drop_at, drop-drop, sets-eq}
 use borrow.Author.Tests.{eq-eqb}
+use Rattle.std.proofs.lemmas.Bool.{eqb-false}
 use Rattle.rules.specs.Rules.Calls.{says}
 use Rattle.map.specs.declared.rows.Row.{Row}
 use Rattle.map.specs.declared.rows.Place.{Place}
@@ -83,24 +85,27 @@ module _ (whole k : ℕ) (bs room : List ℕ) where
   unfolding laying
   laying_bad e = rw (words_bad (whole - k) bs e) (over_none (k * 3) room)
 
--- three words put at place j stand over the room
-stored : (room : List ℕ) (j w a b c : ℕ) → w ≡ 3 → over_from j (a ∷ b ∷ c ∷ []) room ≡ put_mid j w room (a ∷ b ∷ c ∷ [])
+-- three words stored from place j on stand over the room
+stored : (room : List ℕ) (j a b c : ℕ) → j + 3 ≤ length room → over_from j (a ∷ b ∷ c ∷ []) room ≡ set (set (set room j a) (j + 1) b) (j + 2) c
 unfolding over_from over
-stored room j w a b c e = rw e
+stored room j a b c h =
+    let ys : List ℕ = a ∷ b ∷ c ∷ [] in
+    let one : j + 1 ≡ suc j = omega arith in
+    let two : j + 2 ≡ suc (suc j) = omega arith in
+    rw (one, two, drop-drop 3 j room) (sym (sets-eq ys room j h ∙ append_assoc (take j room) ys (drop (j + 3) room)))
 
--- a row is laid: its words x are put at their place j
-pub laying_on : (whole k j w : ℕ) (bs room x : List ℕ) (r : Row) → k < whole → (k + 1) * 3 ≤ length room → Some r ≡ row_in (take 19 bs)
-    → j ≡ k * 3 → w ≡ 3 → x ≡ number_of r.kind ∷ r.at ∷ r.len ∷ []
-    → laying whole k bs room ≡ laying whole (k + 1) (drop 19 bs) (put_mid j w room x)
+-- a row is laid, with the number n of its kind
+pub laying_on : (whole k n : ℕ) (bs room : List ℕ) (r : Row) → k < whole → (k + 1) * 3 ≤ length room → Some r ≡ row_in (take 19 bs) → n ≡ number_of r.kind
+    → laying whole k bs room ≡ laying whole (k + 1) (drop 19 bs) (set (set (set room (k * 3) n) (k * 3 + 1) r.at) (k * 3 + 2) r.len)
 unfolding laying
-laying_on whole k j w bs room x r h l e ej ew ex =
+laying_on whole k n bs room r h l e en =
     let f : whole - k ≡ suc (whole - (k + 1)) = omega arith in
     let t : (k + 1) * 3 ≡ k * 3 + 3 = omega arith in
     let ys : List ℕ = number_of r.kind ∷ r.at ∷ r.len ∷ [] in
     let xs : List ℕ = words_in (whole - (k + 1)) (drop 19 bs) in
     let here : words_in (whole - k) bs ≡ ys ++ xs = rw f (words_on_lem (whole - (k + 1)) bs r e) in
-    rw (here, t, ex, ej)
-    (over_append (k * 3) ys xs room (omega arith) ∙ ap (over_from (k * 3 + 3) xs) (stored room (k * 3) w (number_of r.kind) r.at r.len ew))
+    rw (here, t, en)
+    (over_append (k * 3) ys xs room (omega arith) ∙ ap (over_from (k * 3 + 3) xs) (stored room (k * 3) (number_of r.kind) r.at r.len (omega arith)))
 
 -- ---- a map read
 
@@ -128,6 +133,11 @@ module _ (places : ℕ) (bs room : List ℕ) where
   -- the first bad line
   pub into_bad : (k : ℕ) → read_all 65529 places bs ≡ bad k → says 7 k 0 room ≡ read_into (read_all 65529 places bs) room
   into_bad k e = rw e
+
+  -- the same as the code finds it: there are bytes, and trying their lines gives its number
+  pub into_bad_line : (k : ℕ) {b : Bool} → b ≡ eqb (length bs) 0 → b ≡ false
+      → Err (BadLine k) ≡ counted 0 (read_from 65529 places (length bs) start 1 bs) → says 7 k 0 room ≡ read_into (read_all 65529 places bs) room
+  into_bad_line k e f h = into_bad k (told_bad places bs (eqb-false (length bs) 0 (sym e ∙ f)) k h)
 
   -- what trying the lines refuses is the first bad one
   pub into_refused : (length bs ≡ 0 → ⊥) → (e : Refusal) → Err e ≡ counted 0 (read_from 65529 places (length bs) start 1 bs)

@@ -1,9 +1,7 @@
 -- `map::read::lay_rows` meets its contract; Invariants.antt says what its loop keeps.
-use mathlib.Core.Path.{◌≡◌, refl, sym, ap, ◌∙◌}
-use Prim.Native.Nat.{◌+◌, ◌-◌, ◌*◌}
+use mathlib.Core.Path.{refl, sym, ap, ◌∙◌}
 use native.Mathlib.Omega.{arith}
-use borrow.Rule.Slice.PartMut.{same_len_mid}
-use lib.ListN.{length-drop}
+use lib.ListN.{length-drop, length-set}
 use Rattle.map.specs.Reading.{row_in}
 use Rattle.map.proofs.Reader.AllLines.{chunk, row_chunk}
 use Rattle.map.proofs.Reader.Laid.{laying_start, laying_bad, laying_on, laying_end}
@@ -22,28 +20,39 @@ returns-in_default c =
     let turn = chunk _ c.in-Some.line.now c.next.new.self.iter.rest.now _ here.size c.in-Some.ensures.steps.0.1 in
     sym (here.laid ∙ laying_bad _ _ _ _ (c.in_default.ensures ∙ ap row_in turn.is))
 
-pub slice_bounds-copy_from_slice-end : goal.slice_bounds-copy_from_slice-end
-slice_bounds-copy_from_slice-end c =
+pub bounds-room-k : goal.bounds-room-k
+bounds-room-k c =
     let here = c.loop-k.invariant in
     let steps = c.in-Some.ensures.steps in
     let turn = row_chunk _ c.in-Some.line.now c.next.new.self.iter.rest.now _ here.size steps.0.1 _ c.in-Some-read_row.ensures in
     omega (arith, turn.whole, steps.1)
+
+pub bounds-room-k-in-loop-k : goal.bounds-room-k-in-loop-k
+bounds-room-k-in-loop-k c =
+    let here = c.loop-k.invariant in
+    let steps = c.in-Some.ensures.steps in
+    let turn = row_chunk _ c.in-Some.line.now c.next.new.self.iter.rest.now _ here.size steps.0.1 _ c.in-Some-read_row.ensures in
+    simp length-set (omega (arith, turn.whole, steps.1))
+
+pub bounds-room-k-in-loop-k-2 : goal.bounds-room-k-in-loop-k-2
+bounds-room-k-in-loop-k-2 c =
+    let here = c.loop-k.invariant in
+    let steps = c.in-Some.ensures.steps in
+    let turn = row_chunk _ c.in-Some.line.now c.next.new.self.iter.rest.now _ here.size steps.0.1 _ c.in-Some-read_row.ensures in
+    simp length-set (omega (arith, turn.whole, steps.1))
 
 pub loop-k-preserved : goal.loop-k-preserved
 loop-k-preserved c =
     let here = c.loop-k.invariant in
     let steps = c.in-Some.ensures.steps in
     let turn = row_chunk _ c.in-Some.line.now c.next.new.self.iter.rest.now _ here.size steps.0.1 _ c.in-Some-read_row.ensures in
-    let w : c.in-Some.k * 3 + 3 - c.in-Some.k * 3 ≡ 3 = omega arith in
-    let kept = same_len_mid _ _ c.loop-k.room c.copy_from_slice.new.self c.copy_from_slice.auto.self in
-    rw (steps.2, turn.left)
+    let number = c.from-number.ensures ∙ c.from.ensures in
+    rw (steps.1, steps.2, turn.left)
     (record {
-      laid = here.laid
-          ∙ laying_on _ _ _ _ _ _ _ _ (omega arith) (omega (arith, turn.whole)) turn.row (omega (arith, steps.1)) w
-          (rw (c.from-number.ensures, c.from.ensures) at c.copy_from_slice.ensures.after);
+      laid = here.laid ∙ laying_on _ _ _ _ _ _ (omega arith) (omega (arith, turn.whole)) turn.row number;
       whole = simp length-drop (omega arith);
       size = steps.0.0 ∙ here.size;
-      kept = kept ∙ here.kept;
+      kept = simp length-set here.kept;
     })
 
 pub returns : goal.returns

@@ -33,7 +33,8 @@ returns-in_err-n c =
     rw (refused.1, refused.2) (into_refused _ c.args.lines.now _ (some c.args.lines.now c.is_empty.ensures c.if-is_empty.false) _ c.in_err-n.ensures)
 
 pub returns-then-room-n : goal.returns-then-room-n
-returns-then-room-n c = into_short _ _ _ _ (all _ c.args.lines.now _ c.is_empty.ensures c.if-is_empty.false c.in_ok-n.ensures) c.if-room-n.true
+returns-then-room-n c =
+    into_short _ _ _ _ (all _ c.args.lines.now _ c.is_empty.ensures c.if-is_empty.false c.in_ok-n.ensures) (omega (arith, c.if-room-n.true))
 
 pub lay_rows-requires : goal.lay_rows-requires
 lay_rows-requires c =
@@ -41,5 +42,5 @@ lay_rows-requires c =
 
 pub returns : goal.returns
 returns c =
-    into_done _ _ _ _ (all _ c.args.lines.now _ c.is_empty.ensures c.if-is_empty.false c.in_ok-n.ensures) _ c.if-room-n.false
-    c.lay_rows.ensures
+    into_done _ _ _ _ (all _ c.args.lines.now _ c.is_empty.ensures c.if-is_empty.false c.in_ok-n.ensures) _
+    (omega (arith, c.if-room-n.false)) c.lay_rows.ensures
