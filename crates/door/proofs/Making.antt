@@ -10,11 +10,12 @@ use Rattle.words.specs.Choice.{pick}
 use Rattle.words.specs.Links.{narrow}
 use Rattle.rules.specs.Rules.Calls.{Outcome, says}
 use Rattle.rules.specs.Rules.Making.{State, make, acceptedᵇ}
+use Rattle.heap.specs.declared.answer.NotMade.{NotMade}
 use Rattle.heap.specs.declared.answer.Refusal.{Refusal}
 use Rattle.heap.specs.declared.answer.Refusal.TheVariants.{ZeroSize, TooLarge, NoFit, NotLive, Damaged, BadLength, NeverFits}
 use Rattle.heap.specs.declared.record.Record.{Record}
 use Rattle.heap.specs.Seen.{seen}
-use Rattle.heap.specs.Answer.{number_of, without_value, out_made, outcome}
+use Rattle.heap.specs.Answer.{number_of, out_made, outcome}
 use Rattle.heap.specs.Promises.{Makes}
 use Rattle.door.specs.Reply.{make_over}
 
@@ -40,15 +41,15 @@ not_done NeverFits z = omega arith
 
 module _ (r : Record) (ws vs : List ℕ) where
   -- what is left there says what making by value does, or 6 with all as it was
-  left : (a : Result Record Refusal) (b : Bool) → acceptedᵇ 65529 (length ws) ≡ b → Makes ws (out_made a) vs
+  left : (a : Result Record NotMade) (b : Bool) → acceptedᵇ 65529 (length ws) ≡ b → Makes ws (out_made a) vs
       → outcome (out_made a).answer (seen (result_unwrap_or a r) vs) ≡ pick b (make narrow 65529 ws) (says 6 0 0 (seen r ws))
   unfolding make
   left (Ok q) true f m = m
   left (Ok q) false f m = let no : ◌≡◌ {A = ℕ} 0 6 = ap (λ (o : Outcome State). o.number) (rw f at m) in absurd (omega arith)
-  left (Err e) true f m = absurd (not_done e (ap (λ (o : Outcome State). o.number) (rw f at m)))
+  left (Err e) true f m = absurd (not_done e.refusal (ap (λ (o : Outcome State). o.number) (rw f at m)))
   left (Err e) false f m = ap (λ (o : Outcome State). says o.number 0 o.compared (seen r o.after.words)) (rw f at m)
 
   -- as many as are lent
-  pub over_made : (a : Result Record Refusal) (n : ℕ) → n ≡ length ws → Makes ws (out_made a) vs
+  pub over_made : (a : Result Record NotMade) (n : ℕ) → n ≡ length ws → Makes ws (out_made a) vs
       → outcome (out_made a).answer (seen (result_unwrap_or a r) vs) ≡ make_over (seen r ws) n
   over_made a n e m = left a _ refl m ∙ sym (over_lent (seen r ws) n e)

@@ -42,7 +42,7 @@ use Rattle.heap.specs.declared.kind.Kind.TheVariants.{One, Four}
 use Rattle.heap.specs.declared.answer.Done.{Done}
 use Rattle.heap.specs.declared.answer.Refusal.{Refusal}
 use Rattle.heap.specs.declared.answer.Refusal.TheVariants.{ZeroSize, TooLarge, NotLive, Damaged, BadLength, NeverFits}
-use Rattle.heap.specs.Seen.{seen, base, figures_of, with_cached, counted_in, counted_out, fresh_record, FourPlaces}
+use Rattle.heap.specs.Seen.{seen, base, figures_of, with_cached, counted_in, counted_out, empty_record, fresh_record, FourPlaces}
 use Rattle.heap.specs.Kind.{places_of}
 use Rattle.steps.specs.Chunk.{freed_in, freed, left_free_in, right_free_in, emptied_in, Releasable}
 use Rattle.steps.specs.Found.{told_at}
@@ -73,9 +73,10 @@ one_chunk_by r q ws ws1 ws2 ws3 n g b k h most eg eb e1 e2 ek eq =
     let p : 4 * (n - 1) / 4 ≡ n - 1 = omega arith in
     eq ∙ rw (e2, tags, ek, eb, eg) (rw p refl)
 
-pub make_refused : (ws : List ℕ) (b : Bool) → b ≡ acceptedᵇ 65529 (length ws) → b ≡ false → Makes ws (out_made (Err BadLength)) ws
+pub make_refused : (q : Record) (ws : List ℕ) (b : Bool) → b ≡ acceptedᵇ 65529 (length ws) → b ≡ false → q ≡ empty_record
+    → Makes ws (out_made (Err (record { rec = q; refusal = BadLength }))) ws
 unfolding make cached_of
-make_refused ws b e f = rw (sym e ∙ f)
+make_refused q ws b e f eq = rw (sym e ∙ f, eq)
 
 pub make_done : (r q : Record) (ws ws1 : List ℕ) (n : ℕ) (b : Bool) → b ≡ acceptedᵇ 65529 (length ws) → b ≡ true → n ≡ length ws → r ≡ fresh_record n
     → seen q ws1 ≡ one_chunk base (seen r ws) (4 * (length ws - 1)) → Makes ws (out_made (Ok q)) ws1

@@ -2,7 +2,7 @@
 --     unlink_none, unlink_noted_by     a neighbour that stays; one that leaves its list
 --     free_noted_by                    the merged chunk tagged and listed
 --     release_noted_by                 the whole
-use mathlib.Core.Path.{◌≡◌, refl, sym, ap, ◌∙◌}
+use mathlib.Core.Path.{◌≡◌, refl, sym, ap, ◌∙◌, subst}
 use Rattle.std.specs.Prelude.{Option, Some, None}
 use Rattle.words.specs.declared.names.Link.{Link}
 use mathlib.Core.List.{List, [], ◌∷◌, Memᴰ}
@@ -137,14 +137,17 @@ release_noted_by r p q o ws ws1 ws2 us log log1 log2 log3 x n g h eg ua ub uo =
       undoes = undo_on 4 5 ws ws2 us n0 n2 log3.notes.now log.len log2.len log3.len four uo.undoes;
     }
 
--- and in one log
-pub release_in_log : (r p q o : Record) (ws ws1 ws2 us : List ℕ) (log log1 log2 log3 : Log) (x n : ℕ) (g : Merged)
+-- and in one log, the right neighbour's notes after the left one's
+pub release_in_log : (r p q o : Record) (ws ws1 ws2 us : List ℕ) (log log1 log2 log3 : Log) (x n k : ℕ) (g : Merged)
     → Releasable ws x n → g ≡ merged_in ws x n
     → Noted (unlink_if (seen r ws) g.left) 2 ws log p ws1 log1
-    → Noted (unlink_if (seen p ws1) g.right) 2 ws1 log1 q ws2 log2
+    → k ≡ log1.len
+    → Noted (unlink_if (seen p ws1) g.right) 2 ws1 (record { notes = log1.notes; len = k }) q ws2 log2
     → Noted (free_listed (seen q ws2) g.hdr.0 g.size) 5 ws2 log2 o us log3
     → Noted (release_chunk base (seen r ws) (x - 6) n) 9 ws log o us log3
-release_in_log r p q o ws ws1 ws2 us log log1 log2 log3 x n g h eg ua ub uo =
+release_in_log r p q o ws ws1 ws2 us log log1 log2 log3 x n k g h eg ua ek vb uo =
+    let ub : Noted (unlink_if (seen p ws1) g.right) 2 ws1 log1 q ws2 log2 =
+    subst (λ (l : ℕ). Noted (unlink_if (seen p ws1) g.right) 2 ws1 (record { notes = log1.notes; len = l }) q ws2 log2) ek vb in
     record {
       step = release_noted_by r p q o ws ws1 ws2 us log log1 log2 log3 x n g h eg ua.step ub.step uo.step;
       same = uo.same ∙ ub.same ∙ ua.same;

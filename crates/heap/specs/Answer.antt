@@ -7,11 +7,12 @@ use Rattle.rules.specs.Rules.Making.{State}
 use Rattle.rules.specs.Machine.Machine as rule
 use Rattle.rules.specs.Sound.Test.{soundᵇ}
 use Rattle.heap.specs.declared.answer.Done.{Done}
+use Rattle.heap.specs.declared.answer.NotMade.{NotMade}
 use Rattle.heap.specs.declared.answer.Refusal.{Refusal}
 use Rattle.heap.specs.declared.answer.Refusal.TheVariants.{ZeroSize, TooLarge, NoFit, NotLive, Damaged, BadLength, NeverFits}
 use Rattle.heap.specs.declared.answer.Told.{Told}
 use Rattle.heap.specs.declared.record.Record.{Record}
-use Rattle.heap.specs.Seen.{seen, base, empty_record}
+use Rattle.heap.specs.Seen.{seen, base}
 
 -- what a call answers: a handout's payload and compared count, or why it is refused
 abbrev pub Answer : Type 0
@@ -89,15 +90,16 @@ pub record Out : Type 0 where
   pub answer : Answer
   pub rec : Record
 
--- handing out and taking back, given the record r; making is given none, and where it is refused the empty one stands for it
+-- handing out and taking back, given the record r; making is given none, so its refusal carries one
 abbrev pub out_of : Record → Result (Done × Record) Refusal → Out
 out_of r a = record { answer = answer_of a; rec = rec_of r a }
 
 abbrev pub out_after : Record → Result Record Refusal → Out
 out_after r a = record { answer = without_value a; rec = rec_after r a }
 
-abbrev pub out_made : Result Record Refusal → Out
-out_made a = out_after empty_record a
+abbrev pub out_made : Result Record NotMade → Out
+out_made (Ok r) = record { answer = just_done; rec = r }
+out_made (Err e) = record { answer = Err e.refusal; rec = e.rec }
 
 -- what handing out gives, given the record r, and the words after it as the rules' outcome
 abbrev pub gives : Record → Result (Done × Record) Refusal → List ℕ → Outcome State

@@ -3,7 +3,7 @@
 // No other code says which number a case has. The contracts cite specs/Answer.antt.
 ghost use Rattle.std.specs.Prelude.{◌≡◌, Ok, Err};
 ghost use Rattle.heap.specs.declared.answer.Refusal.TheVariants.{Damaged};
-ghost use Rattle.heap.specs.Answer.{number_of, count_of, answer_of, without_value, told_of};
+ghost use Rattle.heap.specs.Answer.{number_of, count_of, answer_of, without_value, out_made, told_of};
 
 use super::record::Record;
 use std::error::Error;
@@ -75,6 +75,37 @@ impl fmt::Display for Refusal {
 
 impl Error for Refusal {}
 
+// Making refused. Making takes no record, so its refusal hands back one: the empty record.
+#[derive(Clone, Copy)]
+pub struct NotMade {
+    pub rec: Record,
+    pub refusal: Refusal,
+}
+
+// As the refusal is shown.
+impl fmt::Debug for NotMade {
+    fn fmt<W: fmt::Write>(&self, f: &mut fmt::Formatter<W>) -> fmt::Result {
+        fmt::Debug::fmt(&self.refusal, f)
+    }
+}
+
+impl fmt::Display for NotMade {
+    fn fmt<W: fmt::Write>(&self, f: &mut fmt::Formatter<W>) -> fmt::Result {
+        fmt::Display::fmt(&self.refusal, f)
+    }
+}
+
+impl Error for NotMade {}
+
+// For callers whose own record still holds.
+impl From<NotMade> for Refusal {
+    ghost from_gives = { λ not_made refusal. refusal ≡ not_made.refusal };
+
+    fn from(not_made: NotMade) -> Refusal {
+        not_made.refusal
+    }
+}
+
 // Lists that do not end are those of a damaged heap.
 impl From<Lost> for Refusal {
     ghost from_gives = { λ _ refusal. refusal ≡ Damaged };
@@ -142,5 +173,13 @@ impl From<Result<Record, Refusal>> for Told {
             },
             Err(refusal) => Told::from(refusal),
         }
+    }
+}
+
+impl From<Result<Record, NotMade>> for Told {
+    ghost from_gives = { λ made told. told ≡ told_of (out_made made).answer };
+
+    fn from(made: Result<Record, NotMade>) -> Told {
+        Told::from(made.map_err(Refusal::from))
     }
 }

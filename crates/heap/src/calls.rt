@@ -12,7 +12,7 @@ ghost use Rattle.heap.specs.Kind.{places_of};
 ghost use Rattle.heap.specs.Promises.{Makes, HandsOut, TakesBack};
 ghost use Rattle.heap.specs.Answer.{gives, out_of, out_after, out_made, sound_at, Served, Fitting, Missed};
 
-use super::answer::{Done, Refusal};
+use super::answer::{Done, NotMade, Refusal};
 use super::kind::Kind;
 use super::record::Record;
 use audit::Figures;
@@ -55,14 +55,17 @@ impl Record {
         audit::audit(prev, next, figures, heap, places)
     }
 
-    // Makes a heap of the whole slice: one free chunk and the guard. Refuses a length that is not odd, or not 5 to 65,529.
-    pub fn make(heap: &mut [u32]) -> Result<Record, Refusal>
+    // Makes a heap of the whole slice: one free chunk and the guard. Refuses a length that is not odd, or not 5 to 65,529, with the empty record.
+    pub fn make(heap: &mut [u32]) -> Result<Record, NotMade>
         ensures { Makes heap.old (out_made result) heap.new }
     {
         let n = heap.len();
         let accepted = Self::accepts(n);
         if !accepted {
-            return Err(Refusal::BadLength);
+            return Err(NotMade {
+                rec: Record::empty(),
+                refusal: Refusal::BadLength,
+            });
         }
         let rec = Record::of_words(n as u32);
         Ok(rec.one_chunk(heap))

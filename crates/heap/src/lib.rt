@@ -26,6 +26,6 @@ mod record;
 mod split;
 mod undo;
 
-pub use answer::{Done, Refusal, Told};
+pub use answer::{Done, NotMade, Refusal, Told};
 pub use kind::Kind;
 pub use record::{Marked, Record};

@@ -23,9 +23,10 @@ use Rattle.rules.specs.Rules.State.{ops}
 use Rattle.rules.specs.Rules.Making.{State, make, acceptedᵇ, fresh, empty}
 use Rattle.rules.specs.Demands.Meaning.{hand, back}
 use Rattle.heap.specs.declared.record.Record.{Record}
+use Rattle.heap.specs.declared.answer.NotMade.{NotMade}
 use Rattle.heap.specs.declared.answer.Refusal.{Refusal}
 use Rattle.heap.specs.declared.answer.Refusal.TheVariants.{ZeroSize, TooLarge, NoFit, NotLive, Damaged, BadLength, NeverFits}
-use Rattle.heap.specs.Seen.{seen, base, empty_record}
+use Rattle.heap.specs.Seen.{seen, base}
 use Rattle.heap.specs.Answer.{out_made, just_done, number_of, count_of, outcome}
 use Rattle.heap.specs.Answer as heap
 use Rattle.heap.specs.Promises.{Makes, HandsOut, TakesBack}
@@ -167,17 +168,17 @@ make_done r q ws vs n fits f =
     going_on_lem (seen r ws) (outcome just_done (seen q (put_mid 0 (n - 0) ws vs))) (λ z. omega (arith, z)) ∙ made_going r q ws vs n just_done fits f
 
 -- a length that the rules refuse: 6, and nothing has changed
-pub make_refused : (r : Record) (ws vs : List ℕ) (n : ℕ) (e : Refusal) → n ≤ length ws → Makes (mid_of 0 (n - 0) ws) (out_made (Err e)) vs
-    → outcome_of (reply_of (Err (Heap e)) r) (put_mid 0 (n - 0) ws vs) ≡ making (seen r ws) n
+pub make_refused : (r : Record) (ws vs : List ℕ) (n : ℕ) (e : NotMade) → n ≤ length ws → Makes (mid_of 0 (n - 0) ws) (out_made (Err e)) vs
+    → outcome_of (reply_of (Err (Heap e.refusal)) r) (put_mid 0 (n - 0) ws vs) ≡ making (seen r ws) n
 make_refused r ws vs n e fits f =
     let mid : List ℕ = mid_of 0 (n - 0) ws in
-    let no = refused mid (λ z. number_some e (ap (λ (o : Outcome State). o.number) f ∙ z)) in
-    let six : number_of e ≡ 6 = ap (λ (o : Outcome State). o.number) f ∙ no.0 in
-    let none : count_of e ≡ 0 = ap (λ (o : Outcome State). o.compared) f ∙ no.1 in
+    let no = refused mid (λ z. number_some e.refusal (ap (λ (o : Outcome State). o.number) f ∙ z)) in
+    let six : number_of e.refusal ≡ 6 = ap (λ (o : Outcome State). o.number) f ∙ no.0 in
+    let none : count_of e.refusal ≡ 0 = ap (λ (o : Outcome State). o.compared) f ∙ no.1 in
     let kept : put_mid 0 (n - 0) ws vs ≡ ws =
     ap (λ (x : List ℕ). put_mid 0 (n - 0) ws x) (ap (λ (o : Outcome State). o.after.words) f ∙ no.2) ∙ put_same 0 (n - 0) ws in
-    ap (λ (x : List ℕ). says (number_of e) 0 (count_of e) (seen r x)) kept
-    ∙ ap (λ (k : ℕ). says k 0 (count_of e) (seen r ws)) six
+    ap (λ (x : List ℕ). says (number_of e.refusal) 0 (count_of e.refusal) (seen r x)) kept
+    ∙ ap (λ (k : ℕ). says k 0 (count_of e.refusal) (seen r ws)) six
     ∙ ap (λ (k : ℕ). says 6 0 k (seen r ws)) none
-    ∙ going_back (seen r ws) (outcome (Err e) (seen empty_record (put_mid 0 (n - 0) ws vs))) six
-    ∙ made_going r empty_record ws vs n (Err e) fits f
+    ∙ going_back (seen r ws) (outcome (Err e.refusal) (seen e.rec (put_mid 0 (n - 0) ws vs))) six
+    ∙ made_going r e.rec ws vs n (Err e.refusal) fits f

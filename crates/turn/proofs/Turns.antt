@@ -1,15 +1,16 @@
 -- WHAT A TURN ALLOWS: one outcome, and after a refusal record and memory as they were. A caller knows of `turn` only its contract (src/lib.rt).
 -- Assumes nothing.
---     turn_determined     any two outcomes that the contract allows coincide
---     turn_refused        after every number but 0 the record and every word of the memory are as they were
+--     turn_determined            any two outcomes that the contract allows coincide
+--     turn_answer_determined     the code's own answers too: their numbers tell them apart
+--     turn_refused               after every number but 0 the record and every word of the memory are as they were
 use mathlib.Core.Path.{◌≡◌, refl, sym, ap, ◌∙◌}
 use mathlib.Core.Logic.{◌≢◌}
 use mathlib.Core.Bool.{Bool, true, false}
-use mathlib.Core.List.{List, ◌++◌}
+use mathlib.Core.List.{List, [], ◌∷◌, ◌++◌}
 use Prim.Native.Nat.{ℕ}
 use native.Mathlib.Decide.{ℕ_discrete}
 use lib.Dec.{eqb, leb}
-use lib.ListN.{length, take, drop, take-append-drop}
+use lib.ListN.{length, get_or, take, drop, take-append-drop}
 use borrow.Author.Tests.{eqb-false}
 use Rattle.words.specs.Choice.{pick}
 use Rattle.words.specs.Links.{narrow}
@@ -19,14 +20,16 @@ use Rattle.rules.specs.Demands.Meaning.{hand, back}
 use Rattle.rules.specs.Machine.Machine.{ask, give}
 use Rattle.rules.specs.Demands.TwoHeaps.{call}
 use Rattle.rules.proofs.Demands.Proved.{narrow_demands, narrow_making}
+use Rattle.heap.specs.declared.answer.Refusal.TheVariants.{ZeroSize, TooLarge, NoFit, NotLive, Damaged, BadLength, NeverFits}
 use Rattle.heap.specs.declared.record.Record.{Record}
 use Rattle.rules.specs.Demands.Kind.{four}
 use Rattle.heap.specs.Seen.{seen, base, FourPlaces}
 use Rattle.heap.proofs.Apart.{seen_same}
 use Rattle.frame.specs.declared.line.Request.TheVariants.{Make, HandOut, TakeBack}
-use Rattle.std.specs.Prelude.{Option, Some, None}
+use Rattle.std.specs.Prelude.{Option, Some, None, Ok, Err}
 use Rattle.frame.specs.declared.line.Request.{Request}
-use Rattle.turn.specs.Told.{Reply, outcome_of}
+use Rattle.turn.specs.declared.Refusal.TheVariants.{NoFrame, Heap}
+use Rattle.turn.specs.Told.{Answer, told_of, Reply, reply_of, outcome_of}
 use Rattle.turn.specs.Turned.{with_words, before, on_first, going_on, making, turned}
 
 -- the contract of `turn`, with this many cache places: the record r over the memory ws, and the line l, give the reply t and leave the memory vs
@@ -45,6 +48,37 @@ turn_determined places r ws vs us l t u e d ft fu =
     let g : outcome_of t vs ≡ outcome_of u us = e ∙ sym d in
     let s = seen_same t.rec u.rec vs us ft fu (ap (λ (o : Outcome State). o.after) g) in
     (λ i. record { number = (g i).number; value = (g i).value; compared = (g i).compared; rec = s.0 i }, s.1)
+
+-- the answer that three numbers tell
+told_in : ℕ → ℕ → ℕ → Answer
+told_in n v c =
+    let refusals : List Answer =
+    Err (Heap ZeroSize) ∷ Err (Heap TooLarge) ∷ Err (Heap (NoFit c)) ∷ Err (Heap NotLive) ∷ Err (Heap Damaged) ∷ Err (Heap BadLength) ∷ Err NoFrame ∷ [] in
+    get_or (Ok (record { payload = record { 0 = v }; compared = c }) ∷ refusals) n (Err (Heap NeverFits))
+
+-- NOTHING IS LOST in an answer's numbers
+told_back : (a : Answer) → told_in (told_of a).number (told_of a).value (told_of a).compared ≡ a
+unfolding told_in
+told_back (Ok d) = refl
+told_back (Err NoFrame) = refl
+told_back (Err (Heap ZeroSize)) = refl
+told_back (Err (Heap TooLarge)) = refl
+told_back (Err (Heap (NoFit c))) = refl
+told_back (Err (Heap NotLive)) = refl
+told_back (Err (Heap Damaged)) = refl
+told_back (Err (Heap BadLength)) = refl
+told_back (Err (Heap NeverFits)) = refl
+
+-- one answer of the code
+pub turn_answer_determined : (places : ℕ) (r p q : Record) (ws vs us : List ℕ) (l : Option Request) (a b : Answer)
+    → Turns places r ws l (reply_of a p) vs
+    → Turns places r ws l (reply_of b q) us
+    → FourPlaces p
+    → FourPlaces q
+    → (a ≡ b) × (p ≡ q) × (vs ≡ us)
+turn_answer_determined places r p q ws vs us l a b e d fp fq =
+    let s = turn_determined places r ws vs us l (reply_of a p) (reply_of b q) e d fp fq in
+    (sym (told_back a) ∙ ap (λ (t : Reply). told_in t.number t.value t.compared) s.0 ∙ told_back b, ap (λ (t : Reply). t.rec) s.0, s.1)
 
 -- after every number but 0 the state is as it was
 abbrev Kept : State → Outcome State → Type 0

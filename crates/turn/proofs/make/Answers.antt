@@ -14,7 +14,7 @@ returns-then-memory-n c = make_more c.args.rec.now c.args.memory.now _ c.if-memo
 
 pub returns-in_err-rec : goal.returns-in_err-rec
 returns-in_err-rec c =
-    let same : c.from_residual.result ≡ Err c.in_err-rec.field-0.0 = search rules in
+    let same : c.from_residual.result ≡ Err c.in_err-rec.field-0.0.refusal = search rules in
     ap
     (λ (x : Result (Unit {0}) Refusal). outcome_of (reply_of (made x) c.args.rec.now) (put_mid 0 (c.args.words - 0) c.args.memory.now c.make.new.heap))
     same
